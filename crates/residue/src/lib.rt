@@ -1,0 +1,14 @@
+//! Moduli and arithmetic modulo them, the weights of a problem, and the plain types that many crates share.
+#![tactic(auto)]
+
+pub mod class;
+pub mod errors;
+pub mod lists;
+pub mod modulus;
+pub mod setup;
+
+pub use class::{Class, Power, Term};
+pub use errors::{NoMemory, NoUnit};
+pub use lists::{Integrals, Moduli, Powers, Terms};
+pub use modulus::{Modulus, ModulusError, coprime};
+pub use setup::{Setup, SetupError};
