@@ -1,7 +1,7 @@
 -- What `quotient` gives, said of a fraction.
 use Rattle.std.proofs.Common.{◌≡◌, ◌≢◌, ℕ, ◌*◌, ◌%◌, ◌<◌, ◌↔◌, Result, Ok, Err, IfOk, IsErr, nat_abs, sym, ap, ◌∙◌, subst, arith}
 use Rattle.residue.specs.declared.errors.NoUnit.{NoUnit}
-use Rattle.arithmetic.specs.Numbers.{reduce, gcd, Leaves}
+use Rattle.arithmetic.specs.Numbers.{gcd, Leaves}
 use Rattle.arithmetic.specs.Fractions.{Fraction, IsResidue}
 use Rattle.arithmetic.proofs.Residues.{IsResidue-from, gcd-reduce}
 

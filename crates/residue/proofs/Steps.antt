@@ -24,6 +24,9 @@ odd_step m r s left next more odd e f =
     mul_assoc r s (s ^ (left / 2 + left / 2)) ∙ ap (λ x. r * x) (sym (ap (λ k. s ^ k) twice ∙ pow-succ' s (left / 2 + left / 2))) in
     rw (e, f) (same_trans (same_mul (same_mod m (r * s)) (same_square m s (left / 2))) (same_of_eq m _ _ power)).is
 
+pub first_step : (m r s x n : ℕ) → r ≡ 1 → s ≡ x → (r * s ^ n) % m ≡ (x ^ n) % m
+first_step m r s x n e f = rw (e, f) (ap (λ y. y % m) (let l : 1 * x ^ n ≡ x ^ n = omega arith in l))
+
 pub below_by : (m self next z : ℕ) → m ≡ self → next ≡ z % self → 0 < m → next < m
 below_by m self next z e f h = rw (f, ← e) (mod-lt z h)
 

@@ -1,4 +1,4 @@
-//! Classes, their powers, terms and integrals: what is integrated.
+//! Classes, their powers and terms: what is integrated.
 
 use crate::lists::Powers;
 
@@ -22,6 +22,31 @@ pub enum Class {
     Psi { mark: u8 },
 }
 
+impl Class {
+    ghost use Rattle.std.specs.Prelude.{◌≡◌, ◌≤◌};
+    ghost use Rattle.residue.specs.Degrees.{HasParameterWithinLimit, class_degree};
+
+    /// The degree of the class on the maps of degree `d`, from 1 to 10: 1 for `Mark` and `Psi`, `b d + 1` for
+    /// `Hypersurface`, `q - 1` for `Incidence`, `k d - 1` for `R1` and `2 d - 1` for `Contact`.
+    ///
+    /// The parameter `b`, `q` or `k`, where the class has one, is within its limit.
+    pub fn degree(&self, d: u8) -> u64
+        requires parameter { HasParameterWithinLimit self.now }
+        requires d_positive { 1 ≤ d }
+        requires d_limited { d ≤ 10 }
+        ensures { result ≡ class_degree self.now d }
+    {
+        let d = d as u64;
+        match *self {
+            Class::Mark { .. } | Class::Psi { .. } => 1,
+            Class::Hypersurface { b } => b as u64 * d + 1,
+            Class::Incidence { q } => q as u64 - 1,
+            Class::R1 { k } => k as u64 * d - 1,
+            Class::Contact => 2 * d - 1,
+        }
+    }
+}
+
 /// A class to the power `power`, from 1 to 64.
 #[derive(Clone, Copy, Debug, PartialEq, Eq, Drop)]
 pub struct Power {
@@ -29,7 +54,7 @@ pub struct Power {
     pub power: u8,
 }
 
-/// A coefficient times a product of powers of classes.
+/// A coefficient, at least -1,000,000,000 and at most 1,000,000,000, times a product of powers of classes.
 #[derive(Debug, Drop)]
 pub struct Term {
     pub coefficient: i64,

@@ -5,10 +5,11 @@ pub mod class;
 pub mod errors;
 pub mod lists;
 pub mod modulus;
+mod montgomery;
 pub mod setup;
 
 pub use class::{Class, Power, Term};
 pub use errors::{NoMemory, NoUnit};
-pub use lists::{Integrals, Moduli, Powers, Terms};
+pub use lists::{Bytes, Integrals, Items, Moduli, Powers, Residues, Terms};
 pub use modulus::{Modulus, ModulusError, coprime};
 pub use setup::{Setup, SetupError};

@@ -1,76 +1,49 @@
-//! Lists in public types, which contracts see as lists.
+//! The lists of public types, which contracts see as plain lists.
+
+ghost use Rattle.std.specs.Prelude.{◌≡◌, ◌==◌, ◌<◌, length, slice_get, Some};
 
 use crate::class::{Power, Term};
 use crate::modulus::Modulus;
 use std::marker::Model;
 
-/// The moduli of a problem, in order.
+/// A list of items, in order.
 #[derive(Debug, Drop)]
-pub struct Moduli {
-    items: Vec<Modulus>,
+pub struct Items<T> {
+    items: Vec<T>,
 }
 
-impl Model for Moduli {
-    ghost use Rattle.std.specs.Prelude.{ℕ, List};
-
-    ghost Value = { List ℕ };
-
-    ghost view = { λ list. list.items.items };
-}
+/// The moduli of a problem, in order.
+pub type Moduli = Items<Modulus>;
 
 /// The powers of classes of a term, in order.
-#[derive(Debug, Drop)]
-pub struct Powers {
-    items: Vec<Power>,
-}
-
-impl Model for Powers {
-    ghost use Rattle.std.specs.Prelude.{List};
-    ghost use Rattle.residue.specs.declared.class.Power.{Power};
-
-    ghost Value = { List Power };
-
-    ghost view = { λ list. list.items.items };
-}
+pub type Powers = Items<Power>;
 
 /// The terms of an integral, in order.
-#[derive(Debug, Drop)]
-pub struct Terms {
-    items: Vec<Term>,
-}
+pub type Terms = Items<Term>;
 
-impl Model for Terms {
+/// The integrals of a problem over the same trees, in order.
+pub type Integrals = Items<Terms>;
+
+/// Residues, integral by integral and within one integral modulus by modulus.
+pub type Residues = Items<u64>;
+
+/// The bytes of a text.
+pub type Bytes = Items<u8>;
+
+impl<T> Model for Items<T> {
     ghost use Rattle.std.specs.Prelude.{List};
-    ghost use Rattle.residue.specs.declared.class.Term.{Term};
 
-    ghost Value = { List Term };
+    ghost Value = { List T };
 
     ghost view = { λ list. list.items.items };
 }
 
-/// The integrals of a problem, in order.
-#[derive(Debug, Drop)]
-pub struct Integrals {
-    items: Vec<Terms>,
-}
-
-impl Model for Integrals {
-    ghost use Rattle.std.specs.Prelude.{List};
-    ghost use Rattle.residue.specs.declared.class.Term.{Term};
-
-    ghost Value = { List (List Term) };
-
-    ghost view = { λ list. list.items.items };
-}
-
-impl Moduli {
-    ghost use Rattle.std.specs.Prelude.{◌≡◌, ◌<◌, length, slice_get, Some};
-
-    /// The list of these items.
-    pub fn of(items: Vec<Modulus>) -> Moduli
+impl<T> Items<T> {
+    /// The list of these items. It takes no memory.
+    pub fn of(items: Vec<T>) -> Self
         ensures { result ≡ items.items }
     {
-        Moduli { items }
+        Items { items }
     }
 
     /// How many items there are.
@@ -80,23 +53,25 @@ impl Moduli {
         self.items.len()
     }
 
+    /// Whether there is no item.
+    pub fn is_empty(&self) -> bool
+        ensures { result ≡ (length self.now == 0) }
+    {
+        self.items.is_empty()
+    }
+
     /// The item at a place below the length.
-    pub fn get(&self, place: usize) -> &Modulus
+    pub fn get(&self, place: usize) -> &T
         requires { place < length self.now }
         ensures { slice_get self.now place ≡ Some result.now }
     {
         &self.items[place]
     }
-}
 
-impl Integrals {
-    ghost use Rattle.std.specs.Prelude.{◌≡◌, ◌<◌, length, slice_get, Some};
-
-    /// The item at a place below the length.
-    pub fn get(&self, place: usize) -> &Terms
-        requires { place < length self.now }
-        ensures { slice_get self.now place ≡ Some result.now }
+    /// The items as a slice.
+    pub fn as_slice(&self) -> &[T]
+        ensures { result.now ≡ self.now }
     {
-        &self.items[place]
+        self.items.as_slice()
     }
 }

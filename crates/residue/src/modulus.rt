@@ -2,38 +2,46 @@
 
 ghost use Rattle.std.specs.Prelude.{◌≡◌, ◌≢◌, ℕ, ◌+◌, ◌-◌, ◌*◌, ◌/◌, ◌%◌, ◌^◌, ◌<◌, ◌≤◌, ◌↔◌, IfOk, IfSome, IsErr, IsNone, IsTrue, ℤ, pos};
 ghost use Rattle.arithmetic.specs.Numbers.{gcd, Leaves};
+ghost use Rattle.residue.specs.Limits.{IsModulus};
 
 use crate::errors::NoUnit;
+use crate::montgomery::Montgomery;
 use std::marker::Model;
 
 /// Why a number is no modulus.
 #[derive(Clone, Copy, Debug, PartialEq, Eq, Drop)]
 pub enum ModulusError {
+    /// The number is even.
     Even,
+    /// The number is 1.
     TooSmall,
+    /// The number is odd and at least 2^62.
     TooLarge,
 }
 
-/// A modulus: odd, at least 3 and below 2^62.
-#[derive(Clone, Copy, Debug)]
+/// A modulus: an odd number, at least 3 and below 2^62. It need not be a prime.
+///
+/// Contracts see the number. All residues that its calls take and give are numbers below it; inside, products are
+/// by Montgomery's form, with constants that `new` computes.
+#[derive(Clone, Debug, Drop)]
 pub struct Modulus {
-    value: u64,
+    form: Montgomery,
 }
 
 impl Model for Modulus {
     ghost Value = { ℕ };
 
-    ghost view = { λ m. m.value };
-
-    ghost invariant = { λ m. (m.value % 2 ≡ 1) × (3 ≤ m.value) × (m.value < 2 ^ 62) };
-
-    ghost inverse = { λ n. record { value = n } };
+    ghost view = { λ m. m.form.modulus };
 }
 
 impl Modulus {
     /// The modulus `m`.
+    ///
+    /// # Errors
+    /// `Even` where `m` is even, `TooSmall` where it is 1, and `TooLarge` where it is odd and at least 2^62.
     pub fn new(m: u64) -> Result<Self, ModulusError>
         ensures made { IfOk result (λ modulus. modulus ≡ m) }
+        ensures within { IfOk result (λ _. IsModulus m) }
         ensures even { (result ≡ Err ModulusError.Even) ↔ (m % 2 ≡ 0) }
         ensures too_small { (result ≡ Err ModulusError.TooSmall) ↔ (m ≡ 1) }
         ensures too_large { (result ≡ Err ModulusError.TooLarge) ↔ ((m % 2 ≡ 1) × (2 ^ 62 ≤ m)) }
@@ -45,71 +53,68 @@ impl Modulus {
         } else if m >= 1 << 62 {
             Err(ModulusError::TooLarge)
         } else {
-            Ok(Modulus { value: m })
+            Ok(Modulus {
+                form: Montgomery::new(m),
+            })
         }
     }
 
     /// The number that it is.
+    #[inline]
     pub fn get(&self) -> u64
         ensures value { result ≡ self.now }
         ensures odd { result % 2 ≡ 1 }
         ensures at_least_3 { 3 ≤ result }
         ensures limited { result < 2 ^ 62 }
     {
-        self.value
+        self.form.modulus()
     }
 
-    /// The sum of `x` and `y`.
+    /// The sum of the residues `x` and `y`.
+    #[inline]
     pub fn add(&self, x: u64, y: u64) -> u64
         requires x_below { x < self.now }
         requires y_below { y < self.now }
         ensures value { result ≡ (x + y) % self.now }
         ensures below { result < self.now }
     {
-        let m = self.value;
+        let m = self.get();
         let sum = x + y;
         if sum < m { sum } else { sum - m }
     }
 
-    /// The difference of `x` and `y`.
+    /// The difference of the residues `x` and `y`.
+    #[inline]
     pub fn sub(&self, x: u64, y: u64) -> u64
         requires x_below { x < self.now }
         requires y_below { y < self.now }
         ensures value { result ≡ (x + (self.now - y)) % self.now }
         ensures below { result < self.now }
     {
-        let m = self.value;
+        let m = self.get();
         if y <= x { x - y } else { m - (y - x) }
     }
 
-    /// The product of `x` and `y`.
+    /// The product of the residues `x` and `y`.
+    #[inline]
     pub fn mul(&self, x: u64, y: u64) -> u64
         requires x_below { x < self.now }
         requires y_below { y < self.now }
         ensures value { result ≡ (x * y) % self.now }
         ensures below { result < self.now }
     {
-        (x as u128 * y as u128 % self.value as u128) as u64
+        let _ = &self.form;
+        self.form.mul(x, y)
     }
 
-    /// The power of `x` by `exponent`, where the power 0 is 1.
+    /// The power of the residue `x` by `exponent`, where the power 0 is 1, also of 0.
     pub fn pow(&self, x: u64, exponent: u64) -> u64
         requires { x < self.now }
         ensures value { result ≡ (x ^ exponent) % self.now }
         ensures below { result < self.now }
     {
-        let _ = &self.value;
-        let mut result_so_far = 1;
-        let mut square = x;
-        let mut left = exponent;
-        while left > 0 {
-            if left % 2 == 1 {
-                result_so_far = self.mul(result_so_far, square);
-            }
-            square = self.mul(square, square);
-            left /= 2;
-        }
-        result_so_far
+        let _ = &self.form;
+        self.form.pow(x, exponent)
     }
 
     /// The residue of `x`, a number with no sign.
@@ -117,7 +122,7 @@ impl Modulus {
     pub fn of_u64(&self, x: u64) -> u64
         ensures { Leaves self.now (pos x) result }
     {
-        x % self.value
+        x % self.get()
     }
 
     /// The residue of `x`.
@@ -125,7 +130,7 @@ impl Modulus {
     pub fn of_i64(&self, x: i64) -> u64
         ensures { Leaves self.now x result }
     {
-        let m = self.value;
+        let m = self.get();
         if x >= 0 {
             x as u64 % m
         } else {
@@ -133,7 +138,11 @@ impl Modulus {
         }
     }
 
-    /// The residue of the fraction `top` over `bottom`.
+    /// The residue of the fraction `top` over `bottom`: the one number below the modulus whose product with `bottom`
+    /// leaves `top`.
+    ///
+    /// # Errors
+    /// `NoUnit` where `bottom` and the modulus have a common divisor above 1, also where `top` is 0.
     pub fn quotient(&self, top: u64, bottom: u64) -> Result<u64, NoUnit>
         requires top_below { top < self.now }
         requires bottom_below { bottom < self.now }
@@ -147,14 +156,15 @@ impl Modulus {
         }
     }
 
-    /// The inverse of `x`, if it has one.
+    /// The inverse of the residue `x`, by the extended algorithm of Euclid. It is `None` exactly where `x` and the
+    /// modulus have a common divisor above 1.
     pub fn inverse(&self, x: u64) -> Option<u64>
         requires { x < self.now }
         ensures none { IsNone result ↔ (gcd x self.now ≢ 1) }
         ensures unit { IfSome result (λ _. gcd x self.now ≡ 1) }
         ensures inverse { IfSome result (λ y. (y < self.now) × ((x * y) % self.now ≡ 1)) }
     {
-        let m = self.value;
+        let m = self.get();
         let (mut larger, mut smaller) = (m, x);
         let (mut of_larger, mut of_smaller) = (0, 1);
         while smaller > 0 {
@@ -167,8 +177,8 @@ impl Modulus {
     }
 }
 
+/// Whether only 1 divides both `a` and `b`, by the algorithm of Euclid.
 #[tactic(auto, using(arithmetic::proofs::Divisors::euclid))]
-/// Whether only 1 divides both `a` and `b`.
 pub fn coprime(a: u64, b: u64) -> bool
     ensures { IsTrue result ↔ (gcd a b ≡ 1) }
 {

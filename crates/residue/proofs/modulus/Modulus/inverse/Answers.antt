@@ -6,13 +6,13 @@ use Rattle.residue.proofs.modulus.Modulus.inverse.Goals as goal
 
 pub loop-smaller-preserved : goal.loop-smaller-preserved
 loop-smaller-preserved c = record {
-  modulus = c.self.view_is;
+  modulus = c.get-m.ensures.value;
   larger_below = c.loop-smaller.invariant.smaller_below;
-  smaller_below = below_by _ _ _ _ c.self.view_is c.sub-next.ensures.value (omega arith);
+  smaller_below = below_by _ _ _ _ c.get-m.ensures.value c.sub-next.ensures.value (omega arith);
   same_gcd = gcd-mod c.loop-smaller.larger c.loop-smaller.smaller ∙ c.loop-smaller.invariant.same_gcd;
   of_larger_is = c.loop-smaller.invariant.of_smaller_is;
   of_smaller_is =
-      inverse_step_at _ _ _ _ _ _ _ _ _ c.self.view_is c.loop-smaller.invariant.smaller_below
+      inverse_step_at _ _ _ _ _ _ _ _ _ c.get-m.ensures.value c.loop-smaller.invariant.smaller_below
       c.loop-smaller.invariant.of_larger_is c.loop-smaller.invariant.of_smaller_is c.mul.ensures.value c.sub-next.ensures.value;
 }
 
@@ -23,14 +23,14 @@ ended a b m x self none e h =
 
 pub returns-then-larger-eq1-clause-none : goal.returns-then-larger-eq1-clause-none
 returns-then-larger-eq1-clause-none c =
-    let e = ended _ _ _ _ _ c.loop-smaller-test.false c.self.view_is c.loop-smaller.invariant.same_gcd in
+    let e = ended _ _ _ _ _ c.loop-smaller-test.false c.get-m.ensures.value c.loop-smaller.invariant.same_gcd in
     (λ no. cc, λ ne. absurd (ne (e ∙ c.if-larger-eq1.true)))
 
 pub returns-else-larger-eq1-clause-none : goal.returns-else-larger-eq1-clause-none
 returns-else-larger-eq1-clause-none c =
-    let e = ended _ _ _ _ _ c.loop-smaller-test.false c.self.view_is c.loop-smaller.invariant.same_gcd in
+    let e = ended _ _ _ _ _ c.loop-smaller-test.false c.get-m.ensures.value c.loop-smaller.invariant.same_gcd in
     (λ _. λ one. c.if-larger-eq1.false (sym e ∙ one), λ _. refl)
 
 pub returns-then-larger-eq1-clause-unit : goal.returns-then-larger-eq1-clause-unit
 returns-then-larger-eq1-clause-unit c =
-    ended _ _ _ _ _ c.loop-smaller-test.false c.self.view_is c.loop-smaller.invariant.same_gcd ∙ c.if-larger-eq1.true
+    ended _ _ _ _ _ c.loop-smaller-test.false c.get-m.ensures.value c.loop-smaller.invariant.same_gcd ∙ c.if-larger-eq1.true

@@ -1,0 +1,135 @@
+//! Montgomery's form of residues, in which a product costs no division
+//! (Montgomery, Modular multiplication without trial division, 1985).
+//!
+//! In this form the residue `x` is kept as `x * 2^64` modulo the modulus.
+
+ghost use Rattle.std.specs.Prelude.{◌≡◌, ℕ, ◌+◌, ◌-◌, ◌*◌, ◌/◌, ◌%◌, ◌^◌, ◌<◌, ◌≤◌};
+ghost use Rattle.residue.specs.Montgomery.{over_word};
+
+/// An odd modulus below 2^62, with the constants that its reduction needs.
+#[derive(Clone, Copy, Debug)]
+pub(crate) struct Montgomery {
+    /// The modulus.
+    modulus: u64,
+    /// The number whose product with the modulus leaves -1 modulo 2^64.
+    negated_inverse: u64,
+    /// 2^128 modulo the modulus.
+    square: u64,
+    ghost odd: { modulus % 2 ≡ 1 },
+    ghost at_least_3: { 3 ≤ modulus },
+    ghost limited: { modulus < 2 ^ 62 },
+    ghost inverse: { (modulus * negated_inverse + 1) % 2 ^ 64 ≡ 0 },
+    ghost square_is: { square ≡ 2 ^ 128 % modulus },
+}
+
+impl Montgomery {
+    /// The odd modulus `m`, from 3 to 2^62 - 1.
+    pub(crate) fn new(m: u64) -> Self
+        requires odd { m % 2 ≡ 1 }
+        requires at_least_3 { 3 ≤ m }
+        requires limited { m < 2 ^ 62 }
+        ensures { result.modulus ≡ m }
+    {
+        let word = ((1 << 64) % m as u128) as u64;
+        let square = (word as u128 * word as u128 % m as u128) as u64;
+        Montgomery {
+            modulus: m,
+            negated_inverse: negated_inverse(m),
+            square,
+        }
+    }
+
+    /// The modulus.
+    #[inline]
+    pub(crate) fn modulus(&self) -> u64
+        ensures { result ≡ self.now.modulus }
+    {
+        self.modulus
+    }
+
+    /// The product of the residues `x` and `y`, by two reductions.
+    #[inline]
+    pub(crate) fn mul(&self, x: u64, y: u64) -> u64
+        requires x_below { x < self.now.modulus }
+        requires y_below { y < self.now.modulus }
+        ensures { result ≡ (x * y) % self.now.modulus }
+    {
+        let product = self.reduce(x as u128 * y as u128);
+        self.reduce(product as u128 * self.square as u128)
+    }
+
+    /// The power of the residue `x` by `exponent`, where the power 0 is 1. All squares and products stay in the form.
+    pub(crate) fn pow(&self, x: u64, exponent: u64) -> u64
+        requires { x < self.now.modulus }
+        ensures { result ≡ (x ^ exponent) % self.now.modulus }
+    {
+        let mut power = self.enter(1);
+        let mut square = self.enter(x);
+        let mut left = exponent;
+        while left > 0 {
+            if left % 2 == 1 {
+                power = self.times(power, square);
+            }
+            square = self.times(square, square);
+            left /= 2;
+        }
+        self.reduce(power as u128)
+    }
+
+    /// The form of the residue `x`.
+    #[inline]
+    fn enter(&self, x: u64) -> u64
+        requires { x < self.now.modulus }
+        ensures below { result < self.now.modulus }
+        ensures value { over_word self.now.modulus self.now.negated_inverse result ≡ x }
+    {
+        self.reduce(x as u128 * self.square as u128)
+    }
+
+    /// The form of the product of the residues that have the forms `f` and `g`.
+    #[inline]
+    fn times(&self, f: u64, g: u64) -> u64
+        requires f_below { f < self.now.modulus }
+        requires g_below { g < self.now.modulus }
+        ensures below { result < self.now.modulus }
+        ensures value { over_word self.now.modulus self.now.negated_inverse result
+            ≡ (over_word self.now.modulus self.now.negated_inverse f
+            * over_word self.now.modulus self.now.negated_inverse g) % self.now.modulus }
+    {
+        self.reduce(f as u128 * g as u128)
+    }
+
+    /// `t` over 2^64 modulo the modulus: the least multiple of 2^64 among `t` and its sums with multiples of the
+    /// modulus, over 2^64.
+    #[inline]
+    fn reduce(&self, t: u128) -> u64
+        requires { t < self.now.modulus * 2 ^ 64 }
+        ensures below { result < self.now.modulus }
+        ensures value { result ≡ over_word self.now.modulus self.now.negated_inverse t }
+    {
+        let low = (t & 0xffff_ffff_ffff_ffff) as u64;
+        let factor = low.wrapping_mul(self.negated_inverse);
+        let sum = t + factor as u128 * self.modulus as u128;
+        let shifted = (sum >> 64) as u64;
+        if shifted < self.modulus {
+            shifted
+        } else {
+            shifted - self.modulus
+        }
+    }
+}
+
+/// The number whose product with the odd `m` leaves -1 modulo 2^64, bit by bit.
+fn negated_inverse(m: u64) -> u64
+    requires { m % 2 ≡ 1 }
+    ensures { (m * result + 1) % 2 ^ 64 ≡ 0 }
+{
+    let mut inverse = 1;
+    for place in 1u32..64 {
+        let sum = m as u128 * inverse as u128 + 1;
+        if (sum >> place) & 1 == 1 {
+            inverse += 1 << place;
+        }
+    }
+    inverse
+}
