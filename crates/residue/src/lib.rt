@@ -7,6 +7,8 @@ pub mod lists;
 pub mod modulus;
 mod montgomery;
 pub mod setup;
+#[cfg(test)]
+mod tests;
 
 pub use class::{Class, Power, Term};
 pub use errors::{NoMemory, NoUnit};
