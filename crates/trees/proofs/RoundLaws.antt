@@ -1,8 +1,8 @@
 -- The walk in rounds is a walk, and comes to all that the rounds reach.
-use Rattle.std.proofs.Common.{◌≡◌, ◌≢◌, ℕ, zero, suc, ◌⊎◌, Bool, true, false, not, ◌&&◌, ◌||◌, ◌==◌, if◌then◌else◌, List, [], ◌∷◌, ◌++◌, refl, sym, ap, ◌∙◌, subst, inl, inr, ⊎_elim, arith, eq-eqb}
+use Rattle.std.proofs.Common.{◌≡◌, ℕ, zero, suc, ◌⊎◌, Bool, true, false, not, ◌&&◌, ◌||◌, ◌==◌, if◌then◌else◌, List, [], ◌∷◌, ◌++◌, refl, sym, ap, ◌∙◌, subst, inl, inr, ⊎_elim, arith, eq-eqb}
 use Rattle.std.specs.List.{flat_map}
-use Rattle.trees.specs.Edges.{contains, joined_by, round, reached_in}
-use Rattle.trees.specs.Members.{IsIn, here, there}
+use Rattle.trees.specs.Edges.{contains, joined_by, reached_in}
+use Rattle.trees.specs.Members.{IsIn}
 use Rattle.trees.proofs.Listed.{nothing_in, in_cons, from_append, from_flat_map, ComesFrom}
 use Rattle.trees.proofs.TreeLaws.{contains_in}
 use Rattle.trees.specs.Walks.{is_there, IsWalk}
@@ -25,7 +25,7 @@ steps_walk : (es : List (ℕ × ℕ)) (before : List ℕ) → IsWalk (steps_of e
 steps_walk [] before = tt
 steps_walk (e ∷ es) before =
     cases (is_there e.0 before && not (is_there e.1 before)) (is_there e.1 before && not (is_there e.0 before)) refl refl
-        (steps_walk es (e.1 ∷ before)) (steps_walk es (e.0 ∷ before)) (steps_walk es before)
+    (steps_walk es (e.1 ∷ before)) (steps_walk es (e.0 ∷ before)) (steps_walk es before)
   where
     cases : (b c : Bool) → (is_there e.0 before && not (is_there e.1 before)) ≡ b → (is_there e.1 before && not (is_there e.0 before)) ≡ c
         → IsWalk (steps_of es (e.1 ∷ before)) (e.1 ∷ before) → IsWalk (steps_of es (e.0 ∷ before)) (e.0 ∷ before) → IsWalk (steps_of es before) before
@@ -53,25 +53,30 @@ both_after : (es : List (ℕ × ℕ)) (before : List ℕ) (e : ℕ × ℕ) → I
 both_after [] before e i h = elim i [ ]
 both_after (f ∷ es) before e i h =
     cases (is_there f.0 before && not (is_there f.1 before)) (is_there f.1 before && not (is_there f.0 before)) refl refl (in_cons i)
-        (λ j. both_after es (f.1 ∷ before) e j (kept f.1)) (λ j. both_after es (f.0 ∷ before) e j (kept f.0)) (λ j. both_after es before e j h)
+    (λ j. both_after es (f.1 ∷ before) e j (kept f.1)) (λ j. both_after es (f.0 ∷ before) e j (kept f.0)) (λ j. both_after es before e j h)
   where
     still : (x v : ℕ) (b : Bool) → b ≡ true → ((x == v) || b) ≡ true
     still x v b h = grind arith
+
     now : (x : ℕ) (b : Bool) → ((x == x) || b) ≡ true
     now x b = grind arith
+
     kept : (x : ℕ) → (is_there e.0 (x ∷ before) ≡ true) ⊎ (is_there e.1 (x ∷ before) ≡ true)
     kept x = ⊎_elim (λ p. inl (still x e.0 (is_there e.0 before) p)) (λ p. inr (still x e.1 (is_there e.1 before) p)) h
+
     neither : (a b : Bool) → (a && not b) ≡ false → (b && not a) ≡ false → (a ≡ true) ⊎ (b ≡ true) → (a ≡ true) × (b ≡ true)
     neither a b p q h = grind arith
+
     there_now : (x y : ℕ) (walk : List (ℕ × ℕ)) → is_there y before ≡ true
         → (is_there y (after walk (x ∷ before)) ≡ true) × (is_there x (after walk (x ∷ before)) ≡ true)
     there_now x y walk p = (after_keeps walk (x ∷ before) y (still x y (is_there y before) p), after_keeps walk (x ∷ before) x (now x (is_there x before)))
+
     cases : (b c : Bool) → (is_there f.0 before && not (is_there f.1 before)) ≡ b → (is_there f.1 before && not (is_there f.0 before)) ≡ c → (e ≡ f) ⊎ IsIn e es
         → (IsIn e es → (is_there e.0 (after (steps_of es (f.1 ∷ before)) (f.1 ∷ before)) ≡ true) × (is_there e.1 (after (steps_of es (f.1 ∷ before)) (f.1 ∷ before)) ≡ true))
         → (IsIn e es → (is_there e.0 (after (steps_of es (f.0 ∷ before)) (f.0 ∷ before)) ≡ true) × (is_there e.1 (after (steps_of es (f.0 ∷ before)) (f.0 ∷ before)) ≡ true))
         → (IsIn e es → (is_there e.0 (after (steps_of es before) before) ≡ true) × (is_there e.1 (after (steps_of es before) before) ≡ true))
         → (is_there e.0 (after (if b then (f.1, f.0) ∷ steps_of es (f.1 ∷ before) else if c then (f.0, f.1) ∷ steps_of es (f.0 ∷ before) else steps_of es before) before) ≡ true)
-            × (is_there e.1 (after (if b then (f.1, f.0) ∷ steps_of es (f.1 ∷ before) else if c then (f.0, f.1) ∷ steps_of es (f.0 ∷ before) else steps_of es before) before) ≡ true)
+        × (is_there e.1 (after (if b then (f.1, f.0) ∷ steps_of es (f.1 ∷ before) else if c then (f.0, f.1) ∷ steps_of es (f.0 ∷ before) else steps_of es before) before) ≡ true)
     cases true c p q (inr j) x y z = x j
     cases false true p q (inr j) x y z = y j
     cases false false p q (inr j) x y z = z j
@@ -80,9 +85,10 @@ both_after (f ∷ es) before e i h =
     cases false true p q (inl s) x y z =
         let t = there_now f.0 f.1 (steps_of es (f.0 ∷ before)) (parts _ _ q).0 in (ap (λ g. is_there g.0 (after (steps_of es (f.0 ∷ before)) (f.0 ∷ before))) s ∙ t.1, ap (λ g. is_there g.1 (after (steps_of es (f.0 ∷ before)) (f.0 ∷ before))) s ∙ t.0)
     cases false false p q (inl s) x y z =
-        let n = neither _ _ p q (subst (λ g. (is_there g.0 before ≡ true) ⊎ (is_there g.1 before ≡ true)) s h) in
-        (ap (λ g. is_there g.0 (after (steps_of es before) before)) s ∙ after_keeps (steps_of es before) before f.0 n.0,
-         ap (λ g. is_there g.1 (after (steps_of es before) before)) s ∙ after_keeps (steps_of es before) before f.1 n.1)
+        let n = neither _ _ p q (subst (λ g. (is_there g.0 before ≡ true) ⊎ (is_there g.1 before ≡ true)) s h) in (
+          ap (λ g. is_there g.0 (after (steps_of es before) before)) s ∙ after_keeps (steps_of es before) before f.0 n.0,
+          ap (λ g. is_there g.1 (after (steps_of es before) before)) s ∙ after_keeps (steps_of es before) before f.1 n.1,
+        )
 
 -- one more round comes last
 last_round : (k : ℕ) (es : List (ℕ × ℕ)) (before : List ℕ)
@@ -91,7 +97,7 @@ last_round zero es before = after-append (steps_of es before) [] before
 last_round (suc k) es before =
     let next = after (steps_of es before) before in
     after-append (steps_of es before) (walk_in (suc k) es next) before ∙ last_round k es next
-        ∙ ap (λ a. after (steps_of es a) a) (sym (after-append (steps_of es before) (walk_in k es next) before))
+    ∙ ap (λ a. after (steps_of es a) a) (sym (after-append (steps_of es before) (walk_in k es next) before))
 
 -- the walk comes to all that the rounds reach
 pub walk_reaches : (k : ℕ) (es : List (ℕ × ℕ)) (u : ℕ) {v : ℕ} → IsIn v (reached_in k es (u ∷ [])) → is_there v (after (walk_in k es (u ∷ [])) (u ∷ [])) ≡ true
@@ -104,14 +110,15 @@ walk_reaches zero es u {v = v} i = ⊎_elim (λ e. same u v (sym e)) (λ j. absu
         or_true b h = grind arith
 walk_reaches (suc k) es u {v = v} i =
     ap (is_there v) (last_round k es (u ∷ []))
-        ∙ ⊎_elim
-            (λ j. after_keeps (steps_of es (after (walk_in k es (u ∷ [])) (u ∷ []))) (after (walk_in k es (u ∷ [])) (u ∷ [])) v (walk_reaches k es u j))
-            (λ j. by_edge (from_flat_map (joined_by (reached_in k es (u ∷ []))) es j) (λ w h. walk_reaches k es u h))
-            (from_append (reached_in k es (u ∷ [])) (flat_map (joined_by (reached_in k es (u ∷ []))) es) i)
+    ∙ ⊎_elim
+    (λ j. after_keeps (steps_of es (after (walk_in k es (u ∷ [])) (u ∷ []))) (after (walk_in k es (u ∷ [])) (u ∷ [])) v (walk_reaches k es u j))
+    (λ j. by_edge (from_flat_map (joined_by (reached_in k es (u ∷ []))) es j) (λ w h. walk_reaches k es u h))
+    (from_append (reached_in k es (u ∷ [])) (flat_map (joined_by (reached_in k es (u ∷ []))) es) i)
   where
     one : (b : Bool) (x : ℕ) → IsIn v (if b then x ∷ [] else []) → (b ≡ true) × (v ≡ x)
     one true x j = (refl, ⊎_elim (λ e. e) (λ n. absurd (nothing_in n)) (in_cons j))
     one false x j = absurd (nothing_in j)
+
     by_edge : ComesFrom (joined_by (reached_in k es (u ∷ []))) es v
         → ((w : ℕ) → IsIn w (reached_in k es (u ∷ [])) → is_there w (after (walk_in k es (u ∷ [])) (u ∷ [])) ≡ true)
         → is_there v (after (steps_of es (after (walk_in k es (u ∷ [])) (u ∷ []))) (after (walk_in k es (u ∷ [])) (u ∷ []))) ≡ true
@@ -120,8 +127,8 @@ walk_reaches (suc k) es u {v = v} i =
         let r = reached_in k es (u ∷ []) in
         let a = after (walk_in k es (u ∷ [])) (u ∷ []) in
         ⊎_elim
-            (λ j. let o = one (contains r e.0) e.1 j in
-                ap (λ z. is_there z (after (steps_of es a) a)) o.1 ∙ (both_after es a e c.is_in (inl (f e.0 (contains_in e.0 r o.0)))).1)
-            (λ j. let o = one (contains r e.1) e.0 j in
-                ap (λ z. is_there z (after (steps_of es a) a)) o.1 ∙ (both_after es a e c.is_in (inr (f e.1 (contains_in e.1 r o.0)))).0)
-            (from_append (if contains r e.0 then e.1 ∷ [] else []) (if contains r e.1 then e.0 ∷ [] else []) c.gives)
+        (λ j. let o = one (contains r e.0) e.1 j in
+        ap (λ z. is_there z (after (steps_of es a) a)) o.1 ∙ (both_after es a e c.is_in (inl (f e.0 (contains_in e.0 r o.0)))).1)
+        (λ j. let o = one (contains r e.1) e.0 j in
+        ap (λ z. is_there z (after (steps_of es a) a)) o.1 ∙ (both_after es a e c.is_in (inr (f e.1 (contains_in e.1 r o.0)))).0)
+        (from_append (if contains r e.0 then e.1 ∷ [] else []) (if contains r e.1 then e.0 ∷ [] else []) c.gives)

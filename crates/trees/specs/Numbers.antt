@@ -3,8 +3,7 @@
 -- vertices the digits are, most significant first, the letters of the Prüfer word, the colour of vertex 0, for each further vertex
 -- the place of its colour among those other than the colour of its neighbour on the way to vertex 0, the rank of the list of
 -- degrees in lexicographic order, and the vertex of each mark.
-use Rattle.std.specs.Prelude.{◌≡◌, ℕ, zero, suc, ◌+◌, ◌-◌, ◌*◌, nat_lt, if◌then◌else◌, List, [], ◌∷◌, ◌++◌, take, drop, get_or, replicate}
-use Rattle.trees.specs.Edges.{below}
+use Rattle.std.specs.Prelude.{ℕ, zero, suc, ◌+◌, ◌-◌, ◌*◌, nat_lt, if◌then◌else◌, List, [], ◌∷◌, ◌++◌, take, drop, get_or, replicate}
 use Rattle.trees.specs.Decorated.{DecoratedTree, TreeShape}
 use Rattle.trees.specs.Words.{decoded, encoded}
 use Rattle.trees.specs.Numbering.{product_of, joined, split, degree_lists, choose, rank_of}

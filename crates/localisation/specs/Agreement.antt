@@ -1,0 +1,53 @@
+-- Where a tree is bad for a modulus, and which fractions agree with residues.
+use Rattle.std.specs.Prelude.{◌≡◌, ◌≢◌, ℕ, ◌+◌, ◌*◌, ◌≤◌, ◌<◌, ℤ, pos, ◌-ℤ◌, ◌*ℤ◌, nat_abs, List, length, slice_index, get_or, Bool, true, ◌==◌, not}
+use Rattle.std.specs.Int.{◌∣◌}
+use Rattle.std.specs.List.{list_any}
+use Rattle.arithmetic.specs.Numbers.{gcd}
+use Rattle.arithmetic.specs.Fractions.{Fraction, fraction, IsResidue}
+use Rattle.trees.specs.Decorated.{DecoratedTree, TreeShape}
+use Rattle.trees.specs.Numbers.{tree_of}
+use Rattle.residue.specs.declared.class.Term.{Term}
+use Rattle.localisation.specs.Contribution.{contribution}
+
+-- the fraction has no residue modulo m, whatever its top is
+abbrev pub lacks_residue : ℕ → Fraction → Bool
+lacks_residue m f = not (gcd (nat_abs f.bottom) m == 1)
+
+-- a tree is bad for a modulus where its contribution to some integral has no residue
+unfoldable pub is_bad_for : List ℤ → List (List Term) → DecoratedTree → ℕ → Bool
+is_bad_for ws integrals g m = list_any (λ terms. lacks_residue m (contribution ws terms g)) integrals
+
+-- a number is bad where its tree is bad for some modulus
+unfoldable pub is_bad_number : List ℤ → List (List Term) → List ℕ → TreeShape → ℕ → Bool
+is_bad_number ws integrals ms shape k = list_any (is_bad_for ws integrals (tree_of shape k)) ms
+
+-- k is the least bad number from lo on and below hi
+pub record IsLeastBad (bad : ℕ → Bool) (lo hi k : ℕ) : Type 0 where
+  pub from : lo ≤ k
+  pub below : k < hi
+  pub is_bad : bad k ≡ true
+  pub least : (j : ℕ) → lo ≤ j → j < k → bad j ≢ true
+
+-- no number from lo on and below hi is bad
+abbrev pub NoneBad : (ℕ → Bool) → ℕ → ℕ → Type 0
+NoneBad bad lo hi = (j : ℕ) → lo ≤ j → j < hi → bad j ≢ true
+
+-- the place i is that of the first modulus for which a tree is bad
+pub record IsFirstBad (bad : ℕ → Bool) (ms : List ℕ) (i : ℕ) : Type 0 where
+  pub place : i < length ms
+  pub is_bad : bad (slice_index ms i) ≡ true
+  pub first : (j : ℕ) → j < i → bad (slice_index ms j) ≢ true
+
+-- the numbers are the residues of fractions, fraction by fraction and within one fraction modulus by modulus
+pub record AreAllResidues (ms : List ℕ) (fs : List Fraction) (xs : List ℕ) : Type 0 where
+  pub count : length xs ≡ length fs * length ms
+  pub each : (i j : ℕ) → i < length fs → j < length ms
+      → IsResidue (slice_index ms j) (get_or fs i (fraction (pos 0) (pos 1))) (slice_index xs (i * length ms + j))
+
+-- the pair of a top and a bottom is within the bounds, in lowest terms, and has these residues
+pub record Agrees (ms xs : List ℕ) (top_bound bottom_bound : ℕ) (top : ℤ) (bottom : ℕ) : Type 0 where
+  pub top_within : nat_abs top ≤ top_bound
+  pub positive : 1 ≤ bottom
+  pub bottom_within : bottom ≤ bottom_bound
+  pub lowest : gcd (nat_abs top) bottom ≡ 1
+  pub divides : (i : ℕ) → i < length ms → slice_index ms i ∣ nat_abs (pos bottom *ℤ pos (slice_index xs i) -ℤ top)
