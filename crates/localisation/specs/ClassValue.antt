@@ -46,17 +46,28 @@ at_vertices f g = map f (below g.vertices)
 
 -- ---- classes with a fraction at each edge and each vertex
 
--- the product of t L_i + (n - t) L_j over t from 0 to n
-unfoldable pub sections_product : List ℤ → ℕ → ℕ → ℕ → ℤ
-sections_product ws i j n = product_below (n + 1) (λ t. between_weights ws i j t (n - t))
+-- t L_i + (n - t) L_j
+abbrev pub section_term : List ℤ → ℕ → ℕ → ℕ → ℕ → ℤ
+section_term ws i j n t = between_weights ws i j t (n - t)
 
--- the product over t from 1 to n - 1
+-- its product over t from 0 to n
+unfoldable pub sections_product : List ℤ → ℕ → ℕ → ℕ → ℤ
+sections_product ws i j n = product_below (n + 1) (section_term ws i j n)
+
+-- the same from t = 1 on
+abbrev pub inner_term : List ℤ → ℕ → ℕ → ℕ → ℕ → ℤ
+inner_term ws i j n t = section_term ws i j n (t + 1)
+
+-- its product over t from 1 to n - 1
 unfoldable pub inner_product : List ℤ → ℕ → ℕ → ℕ → ℤ
-inner_product ws i j n = product_below (n - 1) (λ t. between_weights ws i j (t + 1) (n - (t + 1)))
+inner_product ws i j n = product_below (n - 1) (inner_term ws i j n)
+
+abbrev pub negated_inner_term : List ℤ → ℕ → ℕ → ℕ → ℕ → ℤ
+negated_inner_term ws i j n t = neg_ℤ (inner_term ws i j n t)
 
 -- the product of the negatives over t from 1 to n - 1
 unfoldable pub negated_inner_product : List ℤ → ℕ → ℕ → ℕ → ℤ
-negated_inner_product ws i j n = product_below (n - 1) (λ t. neg_ℤ (between_weights ws i j (t + 1) (n - (t + 1))))
+negated_inner_product ws i j n = product_below (n - 1) (negated_inner_term ws i j n)
 
 -- the fraction of a class at an edge with the end colours i and j and the degree a; 1 for the classes that have none
 abbrev pub class_edge : List ℤ → Class → ℕ → ℕ → ℕ → Fraction
@@ -84,9 +95,13 @@ class_product ws class g =
 
 -- ---- values
 
--- a times the sum of L_i^t L_j^(q-1-t) over t from 0 to q - 1
+-- L_i^t L_j^(q-1-t)
+abbrev pub incidence_term : List ℤ → ℕ → ℕ → ℕ → ℕ → ℤ
+incidence_term ws q i j t = power (weight ws i) t *ℤ power (weight ws j) (q - 1 - t)
+
+-- a times its sum over t from 0 to q - 1
 abbrev pub incidence_at : List ℤ → ℕ → ℕ → ℕ → ℕ → ℤ
-incidence_at ws q i j a = pos a *ℤ sum_below q (λ t. power (weight ws i) t *ℤ power (weight ws j) (q - 1 - t))
+incidence_at ws q i j a = pos a *ℤ sum_below q (incidence_term ws q i j)
 
 -- the value of a class at a tree
 abbrev pub class_value : List ℤ → Class → DecoratedTree → Fraction
