@@ -1,0 +1,21 @@
+//! The outside as traits that count their faults, with objects in memory and of the host.
+//!
+//! A program that reads files through [`Files`] and writes through [`Sink`] can state in its contracts why a call
+//! failed: a count of faults rose. Objects in memory tell what they hold, so over them the bytes that were read and
+//! written are known too; objects of the host tell nothing.
+#![tactic(auto)]
+
+mod host;
+mod memory;
+mod outside;
+mod put;
+mod sure;
+
+pub use host::{HostErr, HostFiles, HostOut, HostSink};
+pub use memory::{MemoryFiles, MemorySink};
+pub use outside::{Failed, Files, LoadError, Sink};
+pub use put::put_all;
+pub use sure::{SureFiles, SureSink};
+
+#[cfg(test)]
+mod tests;

@@ -1,0 +1,75 @@
+//! The traits of the outside.
+
+ghost use Rattle.std.specs.Prelude.{◌≡◌, ◌≢◌, ◌<◌, ◌≤◌, ℕ, List, Bool, Option, Some, IfOk, IfSome, IsTrue, length, take, option_map, OnOk, OnErr};
+ghost use Rattle.locus_io.specs.Causes.{HasCause, RoseBy, Stayed};
+ghost use Rattle.locus_io.specs.Content.{NamedFiles, file_of, Appends};
+
+use std::alloc::Global;
+
+/// A call of the outside failed, and its object counted a fault.
+#[derive(Clone, Copy, Debug, PartialEq, Eq, Drop)]
+pub struct Failed;
+
+/// Why a file was not loaded.
+#[derive(Clone, Copy, Debug, PartialEq, Eq, Drop)]
+pub enum LoadError {
+    /// The allocator refused memory.
+    NoMemory,
+    /// The file is not there or was not read, and the object counted a fault.
+    Failed,
+}
+
+/// Files by their names.
+///
+/// A count of faults never falls, and stays at its last value, 2^64 - 1.
+pub trait Files {
+    // The files, where the object tells them.
+    ghost content: { Self → Option NamedFiles };
+
+    // How many loads failed so far.
+    ghost faults: { Self → ℕ };
+
+    // The name whose load failed last.
+    ghost last_fault: { Self → Option (List ℕ) };
+
+    /// The first `most` bytes of the file `name`, or all of it where it is shorter. A name that is not there is a
+    /// fault.
+    fn load(&mut self, alloc: Global, name: &str, most: u64) -> Result<Vec<u8>, LoadError>
+        ensures content { content self.new ≡ content self.old }
+        ensures found { IfOk result (λ bytes. IfSome (content self.old) (λ files.
+            option_map (take most) (file_of name.now files) ≡ Some bytes.items)) }
+        ensures failed { result ≡ Err LoadError.Failed →
+            RoseBy (faults self.old) (faults self.new) name.now (last_fault self.new) }
+        ensures kept { result ≢ Err LoadError.Failed →
+            Stayed (faults self.old) (faults self.new) (last_fault self.old) (last_fault self.new) };
+}
+
+/// Where bytes are written.
+///
+/// A count of faults never falls, and stays at its last value, 2^64 - 1. No call takes memory.
+pub trait Sink {
+    // The bytes that were written so far, where the object tells them.
+    ghost written: { Self → Option (List ℕ) };
+
+    // Whether nothing that was written is held back.
+    ghost is_flushed: { Self → Bool };
+
+    // How many calls failed so far.
+    ghost faults: { Self → ℕ };
+
+    /// Writes a front of `piece`, which is not empty, and says how many bytes it has, at least one. After a failed
+    /// call nothing of the piece was written. A device that takes nothing is a fault.
+    fn write(&mut self, piece: &[u8]) -> Result<usize, Failed>
+        requires { 0 < length piece.now }
+        ensures bound { IfOk result (λ count. (0 < count) × (count ≤ length piece.now)) }
+        ensures bytes { IfOk result (λ count.
+            Appends (written self.old) (written self.new) (take count piece.now)) }
+        ensures err { OnErr result (written self.new ≡ written self.old) }
+        ensures cause { HasCause (faults self.old) (faults self.new) result };
+
+    /// Sends on what was written and held back so far.
+    fn flush(&mut self) -> Result<(), Failed>
+        ensures bytes { written self.new ≡ written self.old }
+        ensures flushed { OnOk result (IsTrue (is_flushed self.new)) }
+        ensures cause { HasCause (faults self.old) (faults self.new) result };
+}

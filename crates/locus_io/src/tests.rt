@@ -1,0 +1,116 @@
+use crate::{
+    Files, HostErr, HostFiles, HostOut, HostSink, LoadError, MemoryFiles, MemorySink, Sink,
+    SureFiles, SureSink, put_all,
+};
+use std::alloc::Global;
+use std::fs::OpenOptions;
+use std::test::Fail;
+
+// Two files of one name, of which the first counts, and an empty one.
+fn three_files(alloc: Global, failing: &[u64]) -> Result<MemoryFiles, Fail> {
+    let mut files = Vec::new(alloc);
+    for (name, text) in [("a", "hello"), ("a", "other"), ("b", "")] {
+        let bytes = Vec::from_slice(alloc, text.as_bytes())?;
+        files.push((String::from_str(alloc, name)?, bytes))?;
+    }
+    Ok(MemoryFiles::new(files, Vec::from_slice(alloc, failing)?))
+}
+
+#[test]
+fn memory_files_give_the_front_of_the_first_file(rt: HostRuntime) -> Result<(), Fail> {
+    let alloc = rt.alloc();
+    let mut files = three_files(alloc, &[3])?;
+    let cases = [
+        ("a", 3, Ok("hel")),
+        ("a", 9, Ok("hello")),
+        ("b", 9, Ok("")),
+        ("a", 9, Err(LoadError::Failed)),
+        ("c", 9, Err(LoadError::Failed)),
+        ("a", 0, Ok("")),
+    ];
+    for (name, most, wanted) in cases {
+        let found = files.load(alloc, name, most);
+        assert_eq!(rt; found.is_ok(), wanted.is_ok(), "at {name} {most}");
+        match found {
+            Ok(bytes) => assert_eq!(rt; bytes.as_slice(), wanted.unwrap_or("").as_bytes()),
+            Err(error) => assert_eq!(rt; Some(error), wanted.err()),
+        }
+    }
+    Ok(())
+}
+
+#[test]
+fn memory_sinks_take_pieces_and_fail_where_they_are_to(rt: HostRuntime) -> Result<(), Fail> {
+    let alloc = rt.alloc();
+    let none: &[u64] = &[];
+    let cases: [(usize, usize, &[u64], bool, &str); 8] = [
+        (100, 4, none, true, "one line\n"),
+        (9, 100, none, true, "one line\n"),
+        (8, 100, none, false, "one line"),
+        (100, 4, &[1], false, "one "),
+        (6, 4, none, false, "one li"),
+        (100, 4, &[3], false, "one line\n"),
+        (100, 4, &[0], false, ""),
+        (100, 4, &[4], true, "one line\n"),
+    ];
+    for (room, most, failing, passes, wanted) in cases {
+        assert!(rt; most > 0);
+        let mut sink = MemorySink::new(alloc, room, most, failing)
+            .ok()
+            .ok_or("no memory")?;
+        assert_eq!(rt;
+            put_all(&mut sink, b"one line\n").is_ok(),
+            passes,
+            "at {room} {most}"
+        );
+        assert_eq!(rt; sink.bytes(), wanted.as_bytes(), "at {room} {most}");
+    }
+    Ok(())
+}
+
+#[test]
+fn the_sure_pair_passes(rt: HostRuntime) -> Result<(), Fail> {
+    let alloc = rt.alloc();
+    let mut files = SureFiles::new(Vec::from_slice(alloc, b"text")?);
+    for (name, most, wanted) in [("a", 9, "text"), ("", 2, "te"), ("b", 0, "")] {
+        let bytes = files.load(alloc, name, most).ok().ok_or("no memory")?;
+        assert_eq!(rt; bytes.as_slice(), wanted.as_bytes(), "at {name} {most}");
+    }
+    assert_eq!(rt; SureSink.write(b"text"), Ok(4));
+    assert_eq!(rt; put_all(&mut SureSink, b"text"), Ok(()));
+    Ok(())
+}
+
+#[test]
+fn host_files_read_fronts(rt: HostRuntime) -> Result<(), Fail> {
+    let alloc = rt.alloc();
+    let mut files = HostFiles::new(rt.clone()?);
+    let cases = [
+        ("/dev/null", 5, Ok(0)),
+        ("/dev/zero", 10_000, Ok(10_000)),
+        ("/dev/zero", 0, Ok(0)),
+        ("/", 5, Err(LoadError::Failed)),
+        ("/not/there", 5, Err(LoadError::Failed)),
+    ];
+    for (name, most, wanted) in cases {
+        let found = files.load(alloc, name, most).map(|bytes| bytes.len());
+        assert_eq!(rt; found, wanted, "at {name} {most}");
+    }
+    Ok(())
+}
+
+#[test]
+fn host_out_writes_and_a_full_device_is_a_fault(rt: HostRuntime) -> Result<(), Fail> {
+    let mut out = HostOut::new(rt.stdout());
+    assert_eq!(rt; put_all(&mut out, b"one line\n"), Ok(()));
+    let full = OpenOptions::new().write(true).open(&rt, "/dev/full")?;
+    let mut full = HostSink::new(full);
+    assert!(rt; put_all(&mut full, b"one line\n").is_err());
+    Ok(())
+}
+
+#[test]
+fn host_err_writes(rt: HostRuntime) {
+    let mut err = HostErr::new(rt.stderr());
+    assert_eq!(rt; put_all(&mut err, b"one line\n"), Ok(()));
+}
