@@ -1,9 +1,9 @@
 -- Where a tree is bad for a modulus, and which fractions agree with residues.
-use Rattle.std.specs.Prelude.{◌≡◌, ◌≢◌, ℕ, ◌+◌, ◌*◌, ◌≤◌, ◌<◌, ℤ, pos, ◌-ℤ◌, ◌*ℤ◌, nat_abs, List, length, slice_index, get_or, Bool, true, ◌==◌, not}
+use Rattle.std.specs.Prelude.{◌≡◌, ◌≢◌, ℕ, ◌*◌, ◌/◌, ◌%◌, ◌≤◌, ◌<◌, ℤ, pos, ◌-ℤ◌, ◌*ℤ◌, nat_abs, List, [], length, slice_index, get_or, Bool, true, ◌==◌, not}
 use Rattle.std.specs.Int.{◌∣◌}
 use Rattle.std.specs.List.{list_any}
 use Rattle.arithmetic.specs.Numbers.{gcd}
-use Rattle.arithmetic.specs.Fractions.{Fraction, fraction, IsResidue}
+use Rattle.arithmetic.specs.Fractions.{Fraction, IsResidue}
 use Rattle.trees.specs.Decorated.{DecoratedTree, TreeShape}
 use Rattle.trees.specs.Numbers.{tree_of}
 use Rattle.residue.specs.declared.class.Term.{Term}
@@ -38,11 +38,18 @@ pub record IsFirstBad (bad : ℕ → Bool) (ms : List ℕ) (i : ℕ) : Type 0 wh
   pub is_bad : bad (slice_index ms i) ≡ true
   pub first : (j : ℕ) → j < i → bad (slice_index ms j) ≢ true
 
--- the numbers are the residues of fractions, fraction by fraction and within one fraction modulus by modulus
-pub record AreAllResidues (ms : List ℕ) (fs : List Fraction) (xs : List ℕ) : Type 0 where
-  pub count : length xs ≡ length fs * length ms
-  pub each : (i j : ℕ) → i < length fs → j < length ms
-      → IsResidue (slice_index ms j) (get_or fs i (fraction (pos 0) (pos 1))) (slice_index xs (i * length ms + j))
+-- Residues stand integral by integral, and within one integral modulus by modulus: the modulus at a place ..
+abbrev pub modulus_at : List ℕ → ℕ → ℕ
+modulus_at ms place = slice_index ms (place % length ms)
+
+-- .. and the integral at a place
+abbrev pub integral_at : List ℕ → List (List Term) → ℕ → List Term
+integral_at ms integrals place = get_or integrals (place / length ms) []
+
+-- each number is the residue of the fraction of its integral modulo its modulus
+pub record AreResiduesOf (ms : List ℕ) (integrals : List (List Term)) (fraction_of : List Term → Fraction) (xs : List ℕ) : Type 0 where
+  pub each : (place : ℕ) → place < length integrals * length ms
+      → IsResidue (modulus_at ms place) (fraction_of (integral_at ms integrals place)) (slice_index xs place)
 
 -- the pair of a top and a bottom is within the bounds, in lowest terms, and has these residues
 pub record Agrees (ms xs : List ℕ) (top_bound bottom_bound : ℕ) (top : ℤ) (bottom : ℕ) : Type 0 where
