@@ -1,11 +1,11 @@
 -- Steps of arithmetic modulo m: what an operation on residues gives.
-use Rattle.std.proofs.Common.{◌≡◌, ℕ, zero, suc, ◌+◌, ◌-◌, ◌*◌, ◌%◌, ◌^◌, ◌<◌, ◌≤◌, ℤ, pos, negsuc, ◌+ℤ◌, ◌-ℤ◌, ◌*ℤ◌, neg_ℤ, refl, sym, ap, ◌∙◌, arith, add-one, mul_comm}
+use Rattle.std.proofs.Common.{◌≡◌, ℕ, suc, ◌+◌, ◌-◌, ◌*◌, ◌%◌, ◌^◌, ◌<◌, ℤ, pos, ◌+ℤ◌, ◌-ℤ◌, ◌*ℤ◌, sym, ap, ◌∙◌, arith, add-one, mul_comm}
 use Rattle.arithmetic.specs.Numbers.{power, product_below, factorial, reduce, Leaves}
 use Rattle.arithmetic.proofs.NumberLaws.{reduce-*ℤ, reduce-+ℤ, reduce_below}
 use Rattle.arithmetic.proofs.Residues.{reduce-power}
-use Rattle.arithmetic.proofs.Congruences.{Same, same_refl, same_of_eq, same_sym, same_trans, same_add, same_mul, same_mod, same_cancel}
+use Rattle.arithmetic.proofs.Congruences.{same_refl, same_of_eq, same_trans, same_add, same_mod}
 use Rattle.std.proofs.Math.IntN.{ -ℤ-+ℤ_cancel}
-use Rattle.std.proofs.Math.Nat.{mod-mod, mod-lt, mod-eq_of_lt, add-mod_right}
+use Rattle.std.proofs.Math.Nat.{mod-lt, mod-eq_of_lt, add-mod_right}
 
 pub Leaves-pos : (m n r : ℕ) → 0 < m → r ≡ n % m → Leaves m (pos n) r
 unfolding reduce

@@ -1,14 +1,14 @@
 -- Laws of the residues of fractions.
-use Rattle.std.proofs.Common.{◌≡◌, ◌≢◌, ℕ, zero, suc, ◌+◌, ◌-◌, ◌*◌, ◌/◌, ◌%◌, ◌^◌, ◌<◌, ◌≤◌, ◌↔◌, ℤ, pos, negsuc, ◌+ℤ◌, ◌-ℤ◌, ◌*ℤ◌, nat_abs, List, [], ◌∷◌, sum, refl, sym, ap, ap₂, subst, ◌∙◌, arith, mul_comm}
-use Rattle.std.specs.Int.{◌∣◌, IsGcd}
-use Rattle.std.proofs.Math.Nat.{mod-lt, mod-eq_of_lt, mod-mod, div-add-mod, dvd-mul_right, dvd-mul_right_of_dvd, dvd-add_iff_left, dvd-add_iff_right, dvd_refl, one-dvd, mul-one, add-mod-mod, pow-suc, pow-zero}
-use Rattle.std.proofs.lemmas.Nat.{mul-mod, mul-mod_first, mul-mod_second, pow-mod}
+use Rattle.std.proofs.Common.{◌≡◌, ℕ, zero, suc, ◌+◌, ◌-◌, ◌*◌, ◌/◌, ◌%◌, ◌^◌, ◌<◌, ℤ, pos, negsuc, ◌+ℤ◌, ◌*ℤ◌, nat_abs, List, [], ◌∷◌, sum, sym, ap, ap₂, subst, ◌∙◌, arith, mul_comm}
+use Rattle.std.specs.Int.{◌∣◌}
+use Rattle.std.proofs.Math.Nat.{mod-lt, mod-mod, div-add-mod, dvd-mul_right_of_dvd, dvd-add_iff_left, dvd-add_iff_right, dvd_refl, one-dvd, mul-one, add-mod-mod, pow-suc, pow-zero}
+use Rattle.std.proofs.lemmas.Nat.{mul-mod_first}
 use Rattle.std.proofs.lemmas.List.Sums.{sum_by-cons}
-use Rattle.arithmetic.specs.Numbers.{power, product_below, reduce, gcd}
-use Rattle.arithmetic.specs.Fractions.{Fraction, fraction, times, plus, sum_of_fractions, IsResidue}
-use Rattle.arithmetic.proofs.NumberLaws.{reduce-*ℤ, reduce-+ℤ, reduce-pos, reduce_below, divides_from_same, same_from_divides}
+use Rattle.arithmetic.specs.Numbers.{power, reduce, gcd}
+use Rattle.arithmetic.specs.Fractions.{Fraction, times, plus, sum_of_fractions, IsResidue}
+use Rattle.arithmetic.proofs.NumberLaws.{reduce-*ℤ, reduce-+ℤ, reduce-pos, divides_from_same, same_from_divides}
 use Rattle.arithmetic.proofs.Divisors.{gcd_is, gcd_from_IsGcd, gcd_comm, gcd-mod, IsUnit, IsUnit-from_gcd, gcd-from_IsUnit}
-use Rattle.arithmetic.proofs.Congruences.{Same, same_refl, same_of_eq, same_sym, same_trans, same_add, same_mul, same_mod, same_pow}
+use Rattle.arithmetic.proofs.Congruences.{same_refl, same_of_eq, same_sym, same_trans, same_add, same_mul, same_mod}
 
 pub reduce-power : (m : ℕ) (z : ℤ) (n : ℕ) → 0 < m → reduce m (power z n) ≡ (reduce m z ^ n) % m
 unfolding reduce

@@ -1,7 +1,7 @@
 //! Moduli and arithmetic modulo them.
 
 ghost use Rattle.std.specs.Prelude.{◌≡◌, ◌≢◌, ℕ, ◌+◌, ◌-◌, ◌*◌, ◌/◌, ◌%◌, ◌^◌, ◌<◌, ◌≤◌, ◌↔◌, IfOk, IfSome, IsErr, IsNone, IsTrue, ℤ, pos};
-ghost use Rattle.arithmetic.specs.Numbers.{gcd, Leaves};
+ghost use Rattle.arithmetic.specs.Numbers.{gcd, factorial, Leaves};
 ghost use Rattle.residue.specs.Limits.{IsModulus};
 
 use crate::errors::NoUnit;
@@ -136,6 +136,17 @@ impl Modulus {
         } else {
             m - 1 - (-(x + 1)) as u64 % m
         }
+    }
+
+    /// The residue of `n!`.
+    pub fn factorial(&self, n: u8) -> u64
+        ensures { Leaves self.now (pos (factorial n)) result }
+    {
+        let mut product = self.of_u64(1);
+        for k in 0..n {
+            product = self.mul(product, self.of_u64(k as u64 + 1));
+        }
+        product
     }
 
     /// The residue of the fraction `top` over `bottom`: the one number below the modulus whose product with `bottom`

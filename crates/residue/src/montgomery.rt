@@ -119,17 +119,16 @@ impl Montgomery {
     }
 }
 
-/// The number whose product with the odd `m` leaves -1 modulo 2^64, bit by bit.
+/// The number whose product with the odd `m` leaves -1 modulo 2^64, by Newton's iteration: each step squares the power
+/// of 2 that divides the product and 1.
 fn negated_inverse(m: u64) -> u64
     requires { m % 2 ≡ 1 }
     ensures { (m * result + 1) % 2 ^ 64 ≡ 0 }
 {
-    let mut inverse = 1;
-    for place in 1u32..64 {
-        let sum = m as u128 * inverse as u128 + 1;
-        if (sum >> place) & 1 == 1 {
-            inverse += 1 << place;
-        }
+    let mut inverse = 1u64;
+    for _step in 0..6u32 {
+        let error = m.wrapping_mul(inverse).wrapping_add(1);
+        inverse = inverse.wrapping_mul(error.wrapping_add(1));
     }
     inverse
 }

@@ -82,6 +82,7 @@ fn residues_of_numbers(rt: HostRuntime) -> Result<(), Fail> {
         assert_eq!(rt; Modulus::new(m)?.of_i64(x), residue, "{x} modulo {m}");
     }
     assert_eq!(rt; Modulus::new(GREATEST)?.of_u64(u64::MAX), 3);
+    assert_eq!(rt; Modulus::new(1_000_003)?.factorial(10), 628_791);
     Ok(())
 }
 

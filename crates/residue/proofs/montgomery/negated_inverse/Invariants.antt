@@ -1,6 +1,5 @@
-use Rattle.std.proofs.Common.{◌^◌}
-use Rattle.residue.proofs.InverseBits.{IsSoFar}
+use Rattle.std.proofs.Common.{◌≡◌, ◌+◌, ◌*◌, ◌%◌, ◌^◌}
 use Rattle.residue.proofs.montgomery.negated_inverse.Given as goal
 
-abbrev pub invariant-loop-place : goal.invariant-loop-place
-invariant-loop-place l = IsSoFar l.m (2 ^ l.place) l.inverse
+abbrev pub invariant-loop-step : goal.invariant-loop-step
+invariant-loop-step l = (l.m * l.inverse + 1) % 2 ^ 2 ^ l._step ≡ 0
