@@ -13,3 +13,8 @@ quotient_value f (Err e) p q u v = tt
 pub quotient_refused : {m b : ℕ} (f : Fraction) (r : Result ℕ NoUnit) → Leaves m f.bottom b
     → (IsErr r ↔ (gcd b m ≢ 1)) → (IsErr r ↔ (gcd (nat_abs f.bottom) m ≢ 1))
 quotient_refused {m} {b} f r q k = let h = q.below in subst (λ g. IsErr r ↔ (g ≢ 1)) (ap (λ n. gcd n m) q.is ∙ gcd-reduce m f.bottom (omega arith)) k
+
+pub quotient_unit : {m b : ℕ} (f : Fraction) (r : Result ℕ NoUnit) → Leaves m f.bottom b
+    → IfOk r (λ _. gcd b m ≡ 1) → IfOk r (λ _. gcd (nat_abs f.bottom) m ≡ 1)
+quotient_unit {m} {b} f (Ok x) q u = let h = q.below in sym (ap (λ n. gcd n m) q.is ∙ gcd-reduce m f.bottom (omega arith)) ∙ u
+quotient_unit f (Err e) q u = tt

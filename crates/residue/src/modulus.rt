@@ -1,7 +1,7 @@
 //! Moduli and arithmetic modulo them.
 
 ghost use Rattle.std.specs.Prelude.{◌≡◌, ◌≢◌, ℕ, ◌+◌, ◌-◌, ◌*◌, ◌/◌, ◌%◌, ◌^◌, ◌<◌, ◌≤◌, ◌↔◌, IfOk, IfSome, IsErr, IsNone, IsTrue, ℤ, pos};
-ghost use Rattle.arithmetic.specs.Numbers.{gcd, factorial, Leaves};
+ghost use Rattle.arithmetic.specs.Numbers.{gcd, factorial, product_below, progression, Leaves};
 ghost use Rattle.residue.specs.Limits.{IsModulus};
 
 use crate::errors::NoUnit;
@@ -145,6 +145,23 @@ impl Modulus {
         let mut product = self.of_u64(1);
         for k in 0..n {
             product = self.mul(product, self.of_u64(k as u64 + 1));
+        }
+        product
+    }
+
+    /// The product of `count` terms of an arithmetic progression: of `first`, `first + step`, `first + 2 step` and so
+    /// on. It is 1 where there is no term.
+    pub fn progression_product(&self, first: u64, step: u64, count: u64) -> u64
+        requires first_below { first < self.now }
+        requires step_below { step < self.now }
+        ensures { (z d : ℤ) → Leaves self.now z first → Leaves self.now d step
+            → Leaves self.now (product_below count (progression z d)) result }
+    {
+        let mut product = self.of_u64(1);
+        let mut term = first;
+        for _place in 0..count {
+            product = self.mul(product, term);
+            term = self.add(term, step);
         }
         product
     }

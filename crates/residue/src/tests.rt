@@ -82,7 +82,15 @@ fn residues_of_numbers(rt: HostRuntime) -> Result<(), Fail> {
         assert_eq!(rt; Modulus::new(m)?.of_i64(x), residue, "{x} modulo {m}");
     }
     assert_eq!(rt; Modulus::new(GREATEST)?.of_u64(u64::MAX), 3);
-    assert_eq!(rt; Modulus::new(1_000_003)?.factorial(10), 628_791);
+    let modulus = Modulus::new(1_000_003)?;
+    assert_eq!(rt; modulus.factorial(10), 628_791);
+    assert_eq!(rt; modulus.progression_product(1, 1, 10), 628_791);
+    assert_eq!(rt;
+        modulus.progression_product(7, 1_000_001, 3),
+        105,
+        "7 * 5 * 3"
+    );
+    assert_eq!(rt; modulus.progression_product(0, 5, 0), 1);
     Ok(())
 }
 
