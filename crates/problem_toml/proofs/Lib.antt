@@ -1,0 +1,6 @@
+mod Arrays
+mod Documents
+mod KeyLaws
+mod ModulusLists
+mod ProblemLaws
+mod TermArrays

@@ -1,0 +1,181 @@
+//! Looking up what a table holds.
+
+ghost use Rattle.std.specs.Prelude.{◌≡◌, ◌≤◌, IfOk, OnOk, true, option_map, option_copied, string_bytes, find, not, is_some};
+ghost use Rattle.std.specs.List.{list_all};
+ghost use Rattle.std.specs.BTreeMap.{keys};
+ghost use Rattle.toml.specs.Data.{get_member, as_table};
+ghost use Rattle.toml.specs.View.{view, table_view, items_view};
+ghost use Rattle.problem_toml.specs.Keys.{key_of};
+ghost use Rattle.problem_toml.specs.Tables.{Gives, present, all_present, all_known, is_known, integer_of, text_of, integers_of, integers_in, tables_of, integer_or, integer_at, integers_at, tables_at, within, keep};
+
+use crate::error::ProblemError;
+use crate::name::Name;
+use std::alloc::Global;
+use toml::{Table, Value};
+
+/// The value at a key.
+pub fn find(table: &Table, name: Name) -> Option<&Value>
+    ensures { option_map (λ v. view v.now) result ≡ get_member (key_of name) (table_view table.now) }
+{
+    table.get(name.key())
+}
+
+/// The value at a key that has to be there.
+pub fn value_at(table: &Table, name: Name) -> Result<&Value, ProblemError>
+    ensures { Gives (λ v. view v.now) result (present name (table_view table.now)) }
+{
+    match find(table, name) {
+        Some(value) => Ok(value),
+        None => Err(ProblemError::FormNotBuilt),
+    }
+}
+
+/// The value where it is an integer.
+pub fn as_integer(value: &Value) -> Result<i64, ProblemError>
+    ensures { Gives (λ z. z) result (integer_of (view value.now)) }
+{
+    match value.as_integer() {
+        Some(number) => Ok(number),
+        None => Err(ProblemError::FormNotBuilt),
+    }
+}
+
+/// The value where it is a text.
+pub fn as_text(value: &Value) -> Result<&str, ProblemError>
+    ensures { Gives (λ text. text.now) result (text_of (view value.now)) }
+{
+    match value.as_str() {
+        Some(text) => Ok(text),
+        None => Err(ProblemError::FormNotBuilt),
+    }
+}
+
+/// The integer at a key that has to be there.
+#[tactic(auto, unfolding(crate::specs::Tables::integer_at))]
+pub fn integer(table: &Table, name: Name) -> Result<i64, ProblemError>
+    ensures { Gives (λ z. z) result (integer_at name (table_view table.now)) }
+{
+    as_integer(value_at(table, name)?)
+}
+
+/// The integer, or another where it is left out.
+pub fn integer_or(value: Option<&Value>, otherwise: i64) -> Result<i64, ProblemError>
+    ensures { Gives (λ z. z) result (integer_or otherwise (option_map (λ v. view v.now) value.entry)) }
+{
+    match value {
+        Some(value) => as_integer(value),
+        None => Ok(otherwise),
+    }
+}
+
+/// The integers of an array at a key that has to be there.
+#[tactic(auto, unfolding(crate::specs::Tables::integers_at))]
+pub fn integers(alloc: Global, table: &Table, name: Name) -> Result<Vec<i64>, ProblemError>
+    ensures { Gives (λ v. v.items) result (integers_at name (table_view table.now)) }
+{
+    as_integers(alloc, value_at(table, name)?)
+}
+
+fn as_integers(alloc: Global, value: &Value) -> Result<Vec<i64>, ProblemError>
+    ensures { Gives (λ v. v.items) result (integers_of (view value.now)) }
+{
+    match value.as_array() {
+        Some(values) => integers_among(alloc, values.as_slice()),
+        None => Err(ProblemError::FormNotBuilt),
+    }
+}
+
+#[tactic(auto, using(crate::proofs::Arrays::integers_next, crate::proofs::Arrays::integers_fail, crate::proofs::Arrays::integers_all))]
+fn integers_among(alloc: Global, values: &[Value]) -> Result<Vec<i64>, ProblemError>
+    ensures { Gives (λ v. v.items) result (integers_in (items_view values.now)) }
+{
+    let mut numbers = Vec::new(alloc);
+    for value in values {
+        let number = as_integer(value)?;
+        if numbers.push(number).is_err() {
+            return Err(ProblemError::NoMemory);
+        }
+    }
+    Ok(numbers)
+}
+
+/// The values of an array of tables at a key that has to be there.
+#[tactic(auto, unfolding(crate::specs::Tables::tables_at))]
+pub fn tables(table: &Table, name: Name) -> Result<&[Value], ProblemError>
+    ensures { Gives (λ values. items_view values.now) result (tables_at name (table_view table.now)) }
+{
+    as_tables(value_at(table, name)?)
+}
+
+#[tactic(auto, using(crate::proofs::Arrays::tables_seen))]
+fn as_tables(value: &Value) -> Result<&[Value], ProblemError>
+    ensures { Gives (λ values. items_view values.now) result (tables_of (view value.now)) }
+{
+    match value.as_array() {
+        Some(values) if are_tables(values.as_slice()) => Ok(values.as_slice()),
+        _ => Err(ProblemError::FormNotBuilt),
+    }
+}
+
+fn are_tables(values: &[Value]) -> bool
+    ensures { result ≡ list_all (λ value. is_some (as_table (view value))) values.now }
+{
+    values.iter().all(|value| value.is_table())
+}
+
+/// Every key of the list has to be there.
+#[tactic(auto, using(std::proofs::lemmas::List::drop_more))]
+pub fn check_present(table: &Table, names: &[Name]) -> Result<(), ProblemError>
+    ensures { Gives (λ u. u) result (all_present names.now (table_view table.now)) }
+{
+    for name in names {
+        value_at(table, *name)?;
+    }
+    Ok(())
+}
+
+fn is_known_key(key: &str, names: &[Name]) -> bool
+    ensures { result ≡ is_known key.now names.now }
+{
+    names.iter().any(|name| name.key() == key)
+}
+
+// The least key that is none of these.
+fn first_unknown_key<'a>(table: &'a Table, names: &[Name]) -> Option<&'a String>
+    ensures { option_copied result ≡ find (λ k. not (is_known (string_bytes k) names.now)) (keys table.now) }
+{
+    table.keys().find(|key| !is_known_key(key.as_str(), names))
+}
+
+/// Every key of the table has to be one of the list.
+pub fn check_known(table: &Table, names: &[Name]) -> Result<(), ProblemError>
+    ensures { Gives (λ u. u) result (all_known names.now (table_view table.now)) }
+{
+    match first_unknown_key(table, names) {
+        None => Ok(()),
+        Some(_) => Err(ProblemError::FormNotBuilt),
+    }
+}
+
+/// A number that has to be from `least` to `most`.
+pub fn limited(least: u8, most: u8, number: i64) -> Result<u8, ProblemError>
+    ensures read { Gives (λ n. n) result (within least most number) }
+    ensures limits { IfOk result (λ n. (least ≤ n) × (n ≤ most)) }
+{
+    if number < least as i64 || number > most as i64 {
+        return Err(ProblemError::FormNotBuilt);
+    }
+    Ok(number as u8)
+}
+
+/// A rule that has to hold.
+pub fn check(holds: bool) -> Result<(), ProblemError>
+    ensures read { Gives (λ u. u) result (keep holds) }
+    ensures holds { OnOk result (holds ≡ true) }
+{
+    if holds {
+        Ok(())
+    } else {
+        Err(ProblemError::FormNotBuilt)
+    }
+}
