@@ -1,0 +1,35 @@
+-- Counts in lists of numbers, and sums over lists.
+use Rattle.std.specs.Prelude.{ℕ, zero, suc, ◌+◌, ◌==◌, Bool, cond, List, [], ◌∷◌, min, nat_le, nat_lt}
+
+-- 1 for a test that holds, and else 0
+abbrev pub bit : Bool → ℕ
+bit b = cond b 1 0
+
+-- how often x stands in the list
+abbrev pub times : ℕ → List ℕ → ℕ
+times x [] = 0
+times x (y ∷ ys) = bit (y == x) + times x ys
+
+-- how many numbers of the list are at most x
+abbrev pub up_to : ℕ → List ℕ → ℕ
+up_to x [] = 0
+up_to x (y ∷ ys) = bit (nat_le y x) + up_to x ys
+
+-- the number f of each element, added up
+abbrev pub total : {A : Type 0} → (A → ℕ) → List A → ℕ
+total f [] = 0
+total f (x ∷ xs) = f x + total f xs
+
+-- f of each number below n, added up
+abbrev pub sum_below : ℕ → (ℕ → ℕ) → ℕ
+sum_below zero f = 0
+sum_below (suc n) f = sum_below n f + f n
+
+-- 1 for a number below n, and else 0
+abbrev pub once_below : ℕ → ℕ → ℕ
+once_below n x = bit (nat_lt x n)
+
+-- the least number of a list, and 2^64 - 1 where it is empty
+abbrev pub least_of : List ℕ → ℕ
+least_of [] = 18446744073709551615
+least_of (x ∷ xs) = min x (least_of xs)

@@ -1,0 +1,107 @@
+-- The rule of the claim cursor: word 0 is the cursor, and word 1 the least number that was reported bad.
+use Rattle.std.specs.Prelude.{◌≡◌, ℕ, zero, suc, ◌+◌, ◌<◌, ◌≤◌, ◌==◌, cond, List, [], ◌∷◌, ◌++◌, length, slice_index, min, nat_lt}
+use Rattle.atomic_table.specs.Table.{State, Me, Step}
+use Rattle.claim_table.specs.declared.claimer.Plan.{Plan}
+use Rattle.claim_table.specs.declared.claimer.Record.{Record}
+use Rattle.claim_table.specs.declared.cursor.View.{View}
+use Rattle.claim_table.specs.Counts.{times, up_to, total, once_below}
+use Rattle.claim_table.specs.Claims.{fresh, with_taken, made_dry, with_reported, with_seen, one, is_of, taken_count, dry_count, takes_of, reported_up_to, seen_up_to}
+
+-- what a seat knows: the number of blocks, and the records of the workers that it stands for
+abbrev pub view : ℕ → List Record → View
+view blocks records = record { blocks = blocks; records = records }
+
+-- f of each record of each view, added up
+abbrev pub over : (Record → ℕ) → List View → ℕ
+over f views = total (λ (v : View). total f v.records) views
+
+-- the number of records of a view with another number of blocks
+abbrev pub stranger : ℕ → View → ℕ
+stranger blocks v = cond (v.blocks == blocks) 0 (length v.records)
+
+abbrev pub cursor : List ℕ → ℕ
+cursor words = slice_index words 0
+
+abbrev pub bad : List ℕ → ℕ
+bad words = slice_index words 1
+
+-- The cursor rule, over the two words and the records of all views:
+-- each worker has one record; the taken lists together are the blocks below the cursor, each once;
+-- the cursor is the number of taken blocks and dry records, and where a record is dry, all blocks are taken;
+-- the bad word is the least number reported, or 2^64 - 1, and at most each number seen;
+-- a view with a record knows the number of blocks.
+pub record IsClaimed (p : Plan) (words : List ℕ) (views : List View) : Type 0 where
+  pub limits : (p.blocks ≤ 1024) × (p.workers ≤ 64)
+  pub two_words : length words ≡ 2
+  pub records : over one views ≡ p.workers
+  pub one_each : (worker : ℕ) → over (is_of worker) views ≡ once_below p.workers worker
+  pub each_once : (block : ℕ) → over (takes_of block) views ≡ once_below (min (cursor words) p.blocks) block
+  pub takes : over taken_count views ≡ min (cursor words) p.blocks
+  pub counts : cursor words ≡ over taken_count views + over dry_count views
+  pub all_taken : 0 < over dry_count views → over taken_count views ≡ p.blocks
+  pub most : bad words ≤ 18446744073709551615
+  pub some_reported : (x : ℕ) → x < 18446744073709551615 → bad words ≤ x → 0 < over (reported_up_to x) views
+  pub none_less : (x : ℕ) → x < bad words → over (reported_up_to x) views ≡ 0
+  pub none_seen : (x : ℕ) → x < bad words → over (seen_up_to x) views ≡ 0
+  pub of_round : total (stranger p.blocks) views ≡ 0
+
+abbrev pub Holds : {S : Type 0} → Plan → State S View → Type 0
+Holds p s = IsClaimed p s.words s.views
+
+-- the only record of a seat's view
+abbrev pub first_of : List Record → Record
+first_of [] = fresh 0
+first_of (r ∷ rs) = r
+
+abbrev pub only : View → Record
+only v = first_of v.records
+
+abbrev pub with_only : View → Record → View
+with_only v r = view v.blocks (r ∷ [])
+
+-- the record after a take that found the cursor there
+abbrev pub after_take : View → ℕ → Record
+after_take v found = cond (nat_lt found v.blocks) (with_taken (only v) found) (made_dry (only v))
+
+-- A take appends the found number where it is a block, and else makes the record dry. No earlier take found that number.
+abbrev pub Takes : {S : Type 0} → Step S → Me S View → ℕ → Me S View → Type 0
+Takes s me found after =
+    (after ≡ (with_only me.0 (after_take me.0 found), me.1))
+    × (length (only me.0).taken ≤ found)
+    × (times found (only me.0).taken ≡ 0)
+
+-- a report appends the number
+abbrev pub Reports : {S : Type 0} → Step S → Me S View → ℕ → Me S View → Type 0
+Reports s me found after = after ≡ (with_only me.0 (with_reported (only me.0) s.first), me.1)
+
+-- A look at the bad word appends what it found. No number that this seat reported is less.
+abbrev pub Sees : {S : Type 0} → Step S → Me S View → ℕ → Me S View → Type 0
+Sees s me found after =
+    (after ≡ (with_only me.0 (with_seen (only me.0) found), me.1))
+    × ((x : ℕ) → x < found → up_to x (only me.0).reported ≡ 0)
+
+-- fresh records of n workers from k on
+abbrev pub fresh_from : ℕ → ℕ → List Record
+fresh_from k zero = []
+fresh_from k (suc n) = fresh k ∷ fresh_from (k + 1) n
+
+-- the first seat has the records of all workers, and they are dealt from the front
+abbrev pub opening_view : Plan → View
+opening_view p = view p.blocks (fresh_from 0 p.workers)
+
+abbrev pub rest_of : List Record → List Record
+rest_of [] = []
+rest_of (r ∷ rs) = rs
+
+abbrev pub dealt_left : View → View
+dealt_left v = view v.blocks (rest_of v.records)
+
+abbrev pub dealt_right : View → View
+dealt_right v = view v.blocks (only v ∷ [])
+
+-- a join moves the records of the second seat behind those of the first, and none is left
+abbrev pub joined : View → View → View
+joined v w = view v.blocks (v.records ++ w.records)
+
+abbrev pub spent : View
+spent = view 0 []

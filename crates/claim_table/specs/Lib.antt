@@ -1,0 +1,4 @@
+pub mod Counts
+pub mod Claims
+pub mod Cursor
+pub mod Seats

@@ -1,0 +1,263 @@
+// The claims by one cursor that all workers add to.
+ghost use Rattle.std.specs.Prelude.{◌≡◌, ℕ, ◌+◌, ◌<◌, ◌≤◌, true, List, [], ◌∷◌, length, map, slice_index, slice_index_or, vec_len, vec_capacity, All, IfOk, IfSome, IfNone};
+ghost use Rattle.claim_table.specs.Counts.{times, least_of};
+ghost use Rattle.claim_table.specs.Claims.{given, with_taken, made_dry, all_reported, IsLegal};
+ghost use Rattle.claim_table.specs.Cursor.{only, opening_view};
+
+use crate::claimer::{Block, Claimer, Closed, Plan, Record};
+use crate::owners::Owners;
+use atomic_table::{Join, Play, Seat, Split, Table, TableRule};
+use residue::NoMemory;
+use std::alloc::Global;
+use std::collections::LinkedList;
+
+#[cfg(test)]
+mod tests;
+
+// What a seat of the table knows. No value of it is made.
+pub struct View {
+    pub blocks: u32,
+    pub records: LinkedList<Record>,
+}
+
+pub struct CursorRule;
+
+impl TableRule<(), View, Plan> for CursorRule {
+    ghost use Rattle.claim_table.specs.Cursor.{Holds, opening_view};
+
+    ghost holds = { Holds };
+
+    ghost first = { opening_view };
+}
+
+struct TakeNext;
+
+impl Play<(), View> for TakeNext {
+    ghost use Rattle.claim_table.specs.Cursor.{Takes};
+
+    ghost then = { Takes };
+}
+
+struct ReportNumber;
+
+impl Play<(), View> for ReportNumber {
+    ghost use Rattle.claim_table.specs.Cursor.{Reports};
+
+    ghost then = { Reports };
+}
+
+struct SeeLeast;
+
+impl Play<(), View> for SeeLeast {
+    ghost use Rattle.claim_table.specs.Cursor.{Sees};
+
+    ghost then = { Sees };
+}
+
+struct Deal;
+
+impl Split<View> for Deal {
+    ghost use Rattle.claim_table.specs.Cursor.{dealt_left, dealt_right};
+
+    ghost left = { dealt_left };
+
+    ghost right = { dealt_right };
+}
+
+struct Gather;
+
+impl Join<View> for Gather {
+    ghost use Rattle.claim_table.specs.Cursor.{joined, spent};
+
+    ghost both = { joined };
+
+    ghost spent = { spent };
+}
+
+/// The claims of a round by one cursor: the least block that nobody took.
+///
+/// The board has two words, the cursor and the least number that was reported bad. The rule of
+/// `specs/Cursor.antt` ties them to what the seats did, and holds between any two steps.
+#[derive(Drop)]
+pub struct Cursor {
+    table: CursorTable,
+    dealer: Seat<(), View>,
+    plan: Plan,
+    owners: Owners,
+    ghost limits: { (plan.blocks ≤ 1024) × (0 < plan.workers) × (plan.workers ≤ 64) },
+    ghost planned: { table.shared.key ≡ plan },
+    ghost words: { table.shared.table_id.words ≡ 2 },
+    ghost no_slots: { table.shared.table_id.slots ≡ 0 },
+    ghost dealt: { dealer.table_id ≡ table.shared.table_id },
+    ghost dealt_blocks: { dealer.me.0.blocks ≡ plan.blocks },
+    ghost dealt_records: { length dealer.me.0.records ≡ 0 },
+    ghost dealt_slots: { length dealer.me.1 ≡ 0 },
+    ghost owned: { length owners ≡ plan.blocks },
+}
+
+/// The seat of one worker at a [`Cursor`].
+#[derive(Drop)]
+pub struct CursorSeat {
+    seat: Seat<(), View>,
+    number: u32,
+    dry: bool,
+    taken: Vec<u32>,
+    ghost one_record: { length seat.me.0.records ≡ 1 },
+    ghost no_slot: { length seat.me.1 ≡ 0 },
+    ghost numbered: { (only seat.me.0).worker ≡ number },
+    ghost dries: { (only seat.me.0).dry ≡ dry },
+    ghost takes: { (only seat.me.0).taken ≡ taken.items },
+    ghost few: { vec_len taken ≤ seat.me.0.blocks },
+    ghost below: { (b : ℕ) → 0 < times b taken.items → b < seat.me.0.blocks },
+    ghost room: { seat.me.0.blocks ≤ vec_capacity taken },
+}
+
+impl Claimer for CursorSeat {
+    ghost use Rattle.claim_table.specs.Seats.{seat_record, IsSeatOf, FoundNone};
+
+    type Board = Cursor;
+
+    ghost plan_of = { λ b. b.plan };
+
+    ghost record_of = { seat_record };
+
+    ghost sits_at = { IsSeatOf };
+
+    ghost is_free = { λ _. Unit {0} };
+
+    ghost found_none = { FoundNone };
+
+    /// One split of a seat for each worker.
+    fn start(
+        alloc: Global,
+        blocks: u32,
+        workers: u32,
+    ) -> Result<(Cursor, Vec<CursorSeat>), NoMemory> {
+        let plan = Plan { blocks, workers };
+        let owners = Owners::new(alloc, blocks)?;
+        let mut seats = list_with_room(alloc, workers)?;
+        let (table, mut dealer) = open(alloc, &plan)?;
+        for number in 0..workers {
+            let taken = list_with_room(alloc, blocks)?;
+            let seat = table.shared.split_seat::<Deal>(&mut dealer);
+            seats.push_reserved(CursorSeat {
+                seat,
+                number,
+                dry: false,
+                taken,
+            });
+        }
+        let board = Cursor {
+            table,
+            dealer,
+            plan,
+            owners,
+        };
+        Ok((board, seats))
+    }
+
+    fn worker(&self) -> u32 {
+        self.number
+    }
+
+    /// One `fetch_add`, and no step where the seat is dry already. `None` exactly where the seat
+    /// was dry or the step found the cursor at the end or past it.
+    fn take(&mut self, board: &Cursor) -> Option<Block>
+        requires seat { IsSeatOf self.old board.now }
+        ensures seat { IsSeatOf self.new board.now }
+        ensures some { IfSome result (λ b. seat_record self.new ≡ with_taken (seat_record self.old) b.number) }
+        ensures once { IfSome result (λ b. (b.number < board.now.plan.blocks) × (times b.number (seat_record self.old).taken ≡ 0)) }
+        ensures none { IfNone result (seat_record self.new ≡ made_dry (seat_record self.old)) }
+        ensures none_left { IfNone result (FoundNone self.old self.new) }
+        ensures room { length (seat_record self.new).taken ≤ board.now.plan.blocks }
+        ensures idle { (seat_record self.old).dry ≡ true → result ≡ None }
+    {
+        if self.dry {
+            return None;
+        }
+        let found = board
+            .table
+            .shared
+            .fetch_add::<TakeNext>(&mut self.seat, 0, 1);
+        if found >= board.plan.blocks as u64 {
+            self.dry = true;
+            return None;
+        }
+        let number = found as u32;
+        self.taken.push_reserved(number);
+        Some(Block { number })
+    }
+
+    /// One `fetch_min`.
+    fn report_bad(&mut self, board: &Cursor, number: u64) {
+        board
+            .table
+            .shared
+            .fetch_min::<ReportNumber>(&mut self.seat, 1, number);
+    }
+
+    /// One load.
+    fn least_bad(&mut self, board: &Cursor) -> u64 {
+        board.table.shared.load::<SeeLeast>(&mut self.seat, 1)
+    }
+
+    /// One join for each seat. The table's own clauses are those of the trait, for these types.
+    fn close(board: Cursor, seats: Vec<CursorSeat>) -> Closed
+        requires all { length seats.items ≡ board.plan.workers }
+        requires seated { All (λ s. IsSeatOf s board × Unit {0} × ((seat_record s).dry ≡ true)) seats.items }
+        requires in_order { (k : ℕ) (d : CursorSeat) → k < length seats.items → (seat_record (slice_index_or seats.items k d)).worker ≡ k }
+        ensures legal { IsLegal board.plan result.owners (map (λ s. (seat_record s).taken) seats.items) }
+        ensures least { result.least_bad ≡ least_of (all_reported (map seat_record seats.items)) }
+        ensures seen { All (λ s. All (λ number. result.least_bad ≤ number) (seat_record s).seens) seats.items }
+    {
+        let Cursor {
+            table,
+            dealer: mut all,
+            plan: _,
+            mut owners,
+        } = board;
+        for seat in seats {
+            let CursorSeat {
+                seat,
+                number,
+                dry: _,
+                taken,
+            } = seat;
+            give(&mut owners, &taken, number);
+            table.shared.join_seat::<Gather>(&mut all, seat);
+        }
+        let closed = table.close_with(all);
+        let least_bad = closed.word(1);
+        closed.free();
+        Closed { owners, least_bad }
+    }
+}
+
+type CursorTable = Table<(), View, Plan, CursorRule, Global>;
+
+// The table of a round in which nothing was taken, and a seat that stands for all workers.
+fn open(alloc: Global, plan: &Plan) -> Result<(CursorTable, Seat<(), View>), NoMemory>
+    requires { (plan.now.blocks ≤ 1024) × (plan.now.workers ≤ 64) }
+    ensures table { IfOk result (λ r. (r.0.shared.key ≡ plan.now) × (r.0.shared.table_id.words ≡ 2) × (r.0.shared.table_id.slots ≡ 0)) }
+    ensures dealer { IfOk result (λ r. (r.1.table_id ≡ r.0.shared.table_id) × (r.1.me ≡ (opening_view plan.now, []))) }
+{
+    Table::of_words(alloc, &[0, u64::MAX], plan).map_err(|_| NoMemory)
+}
+
+// An empty list with room for this many elements.
+fn list_with_room<T>(alloc: Global, room: u32) -> Result<Vec<T>, NoMemory>
+    ensures { IfOk result (λ list. (list.items ≡ []) × (room ≤ vec_capacity list)) }
+{
+    Vec::with_capacity(alloc, room as usize).map_err(|_| NoMemory)
+}
+
+// The worker becomes the owner of these blocks.
+fn give(owners: &mut Owners, taken: &[u32], worker: u32)
+    requires { (b : ℕ) → 0 < times b taken.now → b < length owners.old }
+    ensures len { length owners.new ≡ length owners.old }
+    ensures owners { (b : ℕ) → b < length owners.old → slice_index owners.new b ≡ given (times b taken.now) worker (slice_index owners.old b) }
+{
+    for block in taken {
+        owners.set(Block { number: *block }, worker);
+    }
+}
