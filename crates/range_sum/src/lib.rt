@@ -1,0 +1,9 @@
+//! Sums of contributions over ranges of tree numbers.
+//!
+//! For now the problems that are built have degree 1, so their trees have one edge.
+#![tactic(auto)]
+
+mod lines;
+mod range;
+
+pub use range::{NONE_BAD, RangeTotal, first_bad_modulus, sum_range};
