@@ -4,3 +4,4 @@ pub mod LineResidues
 pub mod Shapes
 pub mod Places
 pub mod RangeLaws
+pub mod LineText

@@ -4,6 +4,8 @@
 #![tactic(auto)]
 
 mod lines;
+mod numbered;
 mod range;
 
+pub use numbered::{append_tree, count_trees};
 pub use range::{NONE_BAD, RangeTotal, first_bad_modulus, sum_range};

@@ -2,7 +2,6 @@
 
 ghost use Rattle.std.specs.Prelude.{◌≡◌, ◌≢◌, ℕ, ◌+◌, ◌-◌, ◌*◌, ◌^◌, ◌<◌, ◌≤◌, ◌↔◌, true, IfOk, IfSome, IsErr, IsNone, IsTrue, slice_index, length};
 ghost use Rattle.arithmetic.specs.Fractions.{IsResidue};
-ghost use Rattle.trees.specs.Walks.{lifted};
 ghost use Rattle.trees.specs.Numbers.{tree_count, tree_of};
 ghost use Rattle.localisation.specs.Contribution.{contribution};
 ghost use Rattle.localisation.specs.Agreement.{lacks_residue, modulus_at, integral_at, IsLeastBad, NoneBad, IsFirstBad};
@@ -11,6 +10,7 @@ ghost use Rattle.range_sum.specs.Lines.{HaveHypersurfaces};
 ghost use Rattle.range_sum.specs.Totals.{shape_of, is_bad_of, is_bad_modulo, places_of, ArePartialSums, IsEmptyFrom, AddsResidue};
 
 use crate::lines::line;
+use crate::numbered::end_colours;
 use problem_toml::Problem;
 use residue::{Modulus, NoUnit, Terms};
 
@@ -18,6 +18,7 @@ use residue::{Modulus, NoUnit, Terms};
 pub const NONE_BAD: u64 = u64::MAX;
 
 /// The sums of the contributions of a range of trees.
+#[derive(Debug, Drop)]
 pub struct RangeTotal {
     /// The residues of the partial sums, integral by integral and within one integral modulus by modulus. Places past
     /// them hold 0.
@@ -118,16 +119,12 @@ fn contribution(problem: &Problem, terms: &Terms, modulus: &Modulus, k: u64) -> 
     ensures value { IfOk result (λ x. IsResidue modulus.now
         (contribution problem.now.setup terms.now (tree_of (shape_of (problem_view problem.now)) k)) x) }
 {
-    let r = problem.r as u64;
-    let i = k / r;
-    let j = colour_at(k % r, i);
-    line(&problem.setup, terms.as_slice(), i as u8, j as u8, modulus)
-}
-
-/// The colour with this place among the colours other than `other`, counted upwards from 0.
-fn colour_at(place: u64, other: u64) -> u64
-    requires { place < 2 ^ 8 }
-    ensures { result ≡ lifted place other }
-{
-    if place < other { place } else { place + 1 }
+    let ends = end_colours(problem, k);
+    line(
+        &problem.setup,
+        terms.as_slice(),
+        ends.first,
+        ends.second,
+        modulus,
+    )
 }

@@ -1,0 +1,91 @@
+-- The bytes that were loaded are read as the file is.
+use Rattle.std.proofs.Common.{◌≡◌, ◌≢◌, ℕ, ◌<◌, ◌≤◌, ◌⊎◌, Bool, true, false, nat_lt, List, take, length, Option, Some, None, Result, Ok, Err, IfSome, IfOk, IfErr, IsOk, option_map, option_and_then, refl, sym, ap, ◌∙◌, subst, arith, if◌then◌else◌, ⊎_elim, length-take}
+use Rattle.std.proofs.lemmas.Bool.{cases_lt}
+use Rattle.std.proofs.lemmas.Bool.Decides.{nat_tests}
+use Rattle.std.proofs.lemmas.List.{take_all}
+use Rattle.locus_io.specs.Content.{NamedFiles, file_of, Appends, AppendsFront}
+use Rattle.problem_toml.specs.Facts.{ProblemView}
+use Rattle.problem_toml.specs.Reading.{reading}
+use Rattle.problem_toml.specs.declared.error.ProblemError.{ProblemError}
+use Rattle.locus_core.specs.Words.{file_named}
+use Rattle.locus_core.specs.Outcome.{IsDone, IsNoInverse}
+use Rattle.locus_core.specs.Texts.{done_text, no_inverse_text}
+use Rattle.locus_core.specs.Report.{IsReport, done, no_inverse}
+use Rattle.locus_core.specs.Run.{input_of, loaded, ForProblem, ForRefusal, PrintsResidues, NamesLeastBad, PrintsFront}
+
+-- a text that is too long stays so where it is cut behind the limit
+reading-take : (n : ℕ) (bytes : List ℕ) → 1048576 < n → reading (take n bytes) ≡ reading bytes
+unfolding reading
+reading-take n bytes h =
+    ⊎_elim
+    (λ short. ap reading (take_all n bytes (let l : length bytes ≤ n = omega arith in l)))
+    (λ long. too_long (nat_lt 1048576 (length (take n bytes))) (nat_lt 1048576 (length bytes)) _ _ _
+    (above (length (take n bytes)) (let l = length-take n bytes in omega arith)) (above (length bytes) (omega arith)))
+    (cases_lt (length bytes) n)
+  where
+    above : (k : ℕ) → 1048576 < k → nat_lt 1048576 k ≡ true
+    above k h = grind (arith, nat_tests)
+
+    too_long : {A : Type 0} (a b : Bool) (x y z : A) → a ≡ true → b ≡ true → (if a then x else y) ≡ (if b then x else z)
+    too_long true true x y z p q = refl
+    too_long false b x y z p q = cc
+    too_long true false x y z p q = cc
+
+pub reading-loaded : (bytes : List ℕ) → reading (loaded bytes) ≡ reading bytes
+unfolding loaded
+reading-loaded bytes = reading-take 1048577 bytes (omega arith)
+
+-- the file's bytes, where they are told, read as those that were loaded
+pub input_read : (told : Option NamedFiles) (words : List (List ℕ)) (name bytes : List ℕ) → file_named words ≡ Some name
+    → IfSome told (λ files. option_map loaded (file_of name files) ≡ Some bytes)
+    → IfSome (input_of told words) (λ file. reading file ≡ reading bytes)
+input_read told words name bytes e h =
+    subst (λ o. IfSome (option_and_then (λ n. option_and_then (λ files. file_of n files) told) o) (λ file. reading file ≡ reading bytes)) (sym e) (with_files told h)
+  where
+    with_file : (o : Option (List ℕ)) → option_map loaded o ≡ Some bytes → IfSome o (λ file. reading file ≡ reading bytes)
+    with_file (Some file) h = let l : loaded file ≡ bytes = cc in sym (reading-loaded file) ∙ ap reading l
+    with_file None h = tt
+
+    with_files : (t : Option NamedFiles) → IfSome t (λ files. option_map loaded (file_of name files) ≡ Some bytes)
+        → IfSome (option_and_then (λ files. file_of name files) t) (λ file. reading file ≡ reading bytes)
+    with_files (Some files) h = with_file (file_of name files) h
+    with_files None h = tt
+
+-- what holds of what was read holds of the file
+pub carried : (o : Option (List ℕ)) (bytes : List ℕ) (Q : Result ProblemView ProblemError → Type 0) → IfSome o (λ file. reading file ≡ reading bytes)
+    → Q (reading bytes) → IfSome o (λ file. Q (reading file))
+carried (Some file) bytes Q e h = subst Q (sym e) h
+carried None bytes Q e h = tt
+
+-- ---- a report's text, by its status
+pub residues_printed : (r : Result ProblemView ProblemError) (status : ℕ) (text : List ℕ) (old new : Option (List ℕ))
+    → IfOk r (λ p. IsReport p status text) → status ≡ 0 → Appends old new text → IfOk r (PrintsResidues old new)
+residues_printed (Ok p) status text old new h e a = by_report h e a
+  where
+    by_report : {status : ℕ} {text : List ℕ} → IsReport p status text → status ≡ 0 → Appends old new text → PrintsResidues old new p
+    by_report (done {residues} d) e a = record { residues = residues; done = d; text = a }
+    by_report (no_inverse n) e a = absurd (omega arith)
+residues_printed (Err x) status text old new h e a = tt
+
+pub least_named : (r : Result ProblemView ProblemError) (status : ℕ) (text : List ℕ) (old new : Option (List ℕ))
+    → IfOk r (λ p. IsReport p status text) → status ≡ 4 → Appends old new text → IfOk r (NamesLeastBad old new)
+least_named (Ok p) status text old new h e a = by_report h e a
+  where
+    by_report : {status : ℕ} {text : List ℕ} → IsReport p status text → status ≡ 4 → Appends old new text → NamesLeastBad old new p
+    by_report (done d) e a = absurd (omega arith)
+    by_report (no_inverse {number} {place} n) e a = record { number = number; place = place; no_inverse = n; text = a }
+least_named (Err x) status text old new h e a = tt
+
+pub front_printed : (r : Result ProblemView ProblemError) (status : ℕ) (text : List ℕ) (old new : Option (List ℕ))
+    → IfOk r (λ p. IsReport p status text) → AppendsFront old new text → IfOk r (PrintsFront old new)
+front_printed (Ok p) status text old new h a = record { status = status; text = text; report = h; front = a }
+front_printed (Err x) status text old new h a = tt
+
+pub not_seven : {status number : ℕ} → status ≡ number → number ≢ 7 → status ≢ 7
+not_seven e n s = n (sym e ∙ s)
+
+pub nine_not_three : {status : ℕ} → status ≡ 9 → status ≡ 3 → ⊥
+nine_not_three e f = absurd (omega arith)
+
+pub refused_by : (r : Result ProblemView ProblemError) (error : ProblemError) (P : ProblemError → Type 0) → r ≡ Err error → P error → IfErr r P
+refused_by r error P e h = subst (λ s. IfErr s P) (sym e) h

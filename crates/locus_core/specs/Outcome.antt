@@ -1,0 +1,20 @@
+-- What the sum of a problem comes to.
+use Rattle.std.specs.Prelude.{◌≡◌, ℕ, List}
+use Rattle.trees.specs.Numbers.{tree_count}
+use Rattle.localisation.specs.Agreement.{IsLeastBad, NoneBad, IsFirstBad}
+use Rattle.problem_toml.specs.Facts.{ProblemView}
+use Rattle.range_sum.specs.Totals.{shape_of, is_bad_of, is_bad_modulo, ArePartialSums}
+
+-- how many decorated trees a problem has
+abbrev pub count_of : ProblemView → ℕ
+count_of p = tree_count (shape_of p)
+
+-- no number is bad, and the residues are those of the sums over the numbers of all decorated trees
+pub record IsDone (p : ProblemView) (residues : List ℕ) : Type 0 where
+  pub none_bad : NoneBad (is_bad_of p) 0 (count_of p)
+  pub sums : ArePartialSums p 0 (count_of p) residues
+
+-- the least number whose tree has no residue, and the place of the first modulus for which it has none
+pub record IsNoInverse (p : ProblemView) (number place : ℕ) : Type 0 where
+  pub least : IsLeastBad (is_bad_of p) 0 (count_of p) number
+  pub first : IsFirstBad (is_bad_modulo p number) p.moduli place

@@ -1,0 +1,8 @@
+//! The top call: from the words of the command line and the bytes of a file to what is printed.
+#![tactic(auto)]
+
+mod report;
+mod top;
+mod words;
+
+pub use top::{Answer, locus};
