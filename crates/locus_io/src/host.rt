@@ -1,6 +1,6 @@
 //! The real outside: a few lines over the standard library. Nothing is said of what a file or a device holds.
 
-ghost use Rattle.std.specs.Prelude.{None, option_map, string_bytes};
+ghost use Rattle.std.specs.Prelude.{◌≡◌, ◌≤◌, None, IfOk, vec_len, option_map, string_bytes};
 
 use crate::outside::{Failed, Files, LoadError, Sink};
 use std::alloc::Global;
@@ -19,7 +19,10 @@ pub struct HostFiles<R: rt::Files + Drop> {
 
 impl<R: rt::Files + Drop> HostFiles<R> {
     /// The files that `runtime` reaches.
-    pub fn new(runtime: R) -> HostFiles<R> {
+    pub fn new(runtime: R) -> HostFiles<R>
+        ensures faults { ⟦<HostFiles<R> as Files>⟧.faults result ≡ 0 }
+        ensures last_fault { ⟦<HostFiles<R> as Files>⟧.last_fault result ≡ None }
+    {
         HostFiles {
             runtime,
             faults: 0,
@@ -29,7 +32,9 @@ impl<R: rt::Files + Drop> HostFiles<R> {
 }
 
 // The first `most` bytes of a reader, for at most `most` turns that take a byte.
-fn read_front<T: Read>(alloc: Global, reader: &mut T, most: u64) -> Result<Vec<u8>, LoadError> {
+fn read_front<T: Read>(alloc: Global, reader: &mut T, most: u64) -> Result<Vec<u8>, LoadError>
+    ensures { IfOk result (λ bytes. vec_len bytes ≤ most) }
+{
     let mut bytes = Vec::new(alloc);
     let mut piece = [0u8; PIECE];
     let mut left = most;
@@ -56,7 +61,9 @@ fn load_front<R: rt::Files>(
     runtime: &R,
     name: &str,
     most: u64,
-) -> Result<Vec<u8>, LoadError> {
+) -> Result<Vec<u8>, LoadError>
+    ensures { IfOk result (λ bytes. vec_len bytes ≤ most) }
+{
     match fs::File::open(runtime, name) {
         Ok(mut file) => read_front(alloc, &mut file, most),
         Err(error) if error.kind() == ErrorKind::OutOfMemory => Err(LoadError::NoMemory),
@@ -103,7 +110,9 @@ pub type HostErr = HostSink<Stderr>;
 
 impl<W: Write> HostSink<W> {
     /// The writer `inner`, to which nothing was written yet.
-    pub fn new(inner: W) -> HostSink<W> {
+    pub fn new(inner: W) -> HostSink<W>
+        ensures { ⟦<HostSink<W> as Sink>⟧.faults result ≡ 0 }
+    {
         HostSink {
             inner,
             is_flushed: false,

@@ -1,6 +1,6 @@
 //! Objects of the outside in memory, which tell what they hold and fail where a test wants it.
 
-ghost use Rattle.std.specs.Prelude.{◌≡◌, ◌≢◌, ◌≤◌, ◌<◌, ◌↔◌, ◌⊎◌, ◌++◌, [], Some, None, true, false, Contains, IfOk, IsTrue, IsErr, OnOk, OnErr, length, take, option_map, string_bytes};
+ghost use Rattle.std.specs.Prelude.{◌≡◌, ◌≢◌, ◌≤◌, ◌<◌, ◌↔◌, ◌⊎◌, ◌++◌, [], Some, None, true, false, Contains, IfOk, IsTrue, IsErr, OnOk, OnErr, length, take, vec_len, option_map, string_bytes};
 ghost use Rattle.locus_io.specs.Content.{told_files, file_of};
 ghost use Rattle.locus_io.specs.Memory.{counted, taken_of, IsFull};
 
@@ -91,6 +91,7 @@ impl Files for MemoryFiles {
     fn load(&mut self, alloc: Global, name: &str, most: u64) -> Result<Vec<u8>, LoadError>
         ensures found { IfOk result (λ bytes.
             option_map (take most) (file_of name.now self.old.files) ≡ Some bytes.items) }
+        ensures limit { IfOk result (λ bytes. vec_len bytes ≤ most) }
         ensures spared { OnOk result (¬ Contains self.old.failing self.old.next_call) }
         ensures failed { result ≡ Err LoadError.Failed →
             Contains self.old.failing self.old.next_call ⊎ (file_of name.now self.old.files ≡ None) }

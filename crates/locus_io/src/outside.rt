@@ -1,6 +1,6 @@
 //! The traits of the outside.
 
-ghost use Rattle.std.specs.Prelude.{◌≡◌, ◌≢◌, ◌<◌, ◌≤◌, ℕ, List, Bool, Option, Some, IfOk, IfSome, IsTrue, length, take, option_map, OnOk, OnErr};
+ghost use Rattle.std.specs.Prelude.{◌≡◌, ◌≢◌, ◌<◌, ◌≤◌, ℕ, List, Bool, Option, Some, IfOk, IfSome, IsTrue, length, take, vec_len, option_map, OnOk, OnErr};
 ghost use Rattle.locus_io.specs.Causes.{HasCause, RoseBy, Stayed};
 ghost use Rattle.locus_io.specs.Content.{NamedFiles, file_of, Appends};
 
@@ -38,6 +38,7 @@ pub trait Files {
         ensures content { content self.new ≡ content self.old }
         ensures found { IfOk result (λ bytes. IfSome (content self.old) (λ files.
             option_map (take most) (file_of name.now files) ≡ Some bytes.items)) }
+        ensures limit { IfOk result (λ bytes. vec_len bytes ≤ most) }
         ensures failed { result ≡ Err LoadError.Failed →
             RoseBy (faults self.old) (faults self.new) name.now (last_fault self.new) }
         ensures kept { result ≢ Err LoadError.Failed →

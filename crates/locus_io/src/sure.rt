@@ -1,6 +1,6 @@
 //! Objects that never fail and tell nothing of their content.
 
-ghost use Rattle.std.specs.Prelude.{◌≡◌, ◌<◌, None, true, IfOk, IsOk, IsOkUnless, length, take};
+ghost use Rattle.std.specs.Prelude.{◌≡◌, ◌≤◌, ◌<◌, None, true, IfOk, IsOk, IsOkUnless, length, take, vec_len};
 
 use crate::outside::{Failed, Files, LoadError, Sink};
 use std::alloc::Global;
@@ -38,6 +38,7 @@ impl Files for SureFiles {
 
     fn load(&mut self, alloc: Global, name: &str, most: u64) -> Result<Vec<u8>, LoadError>
         ensures text { IfOk result (λ bytes. bytes.items ≡ take most self.old) }
+        ensures limit { IfOk result (λ bytes. vec_len bytes ≤ most) }
         ensures sure { IsOkUnless result LoadError.NoMemory }
         ensures same { self.new ≡ self.old }
     {
