@@ -1,17 +1,16 @@
 -- Facts of the parts of a problem.
-use Rattle.std.proofs.Common.{◌≡◌, ◌≢◌, ℕ, ◌<◌, ◌≤◌, ◌+◌, ◌⊎◌, ◌↔◌, ℤ, Bool, true, false, cond, ◌||◌, List, [], ◌∷◌, Option, Some, None, Result, Ok, Err, drop, take, length, get_or, refl, ap, ◌∙◌, sym, arith, All, position, slice_index, eqb, ◌*◌, ◌^◌, lit<}
+use Rattle.std.proofs.Common.{◌≡◌, ℕ, ◌<◌, ◌≤◌, ◌+◌, ◌⊎◌, ◌↔◌, ℤ, Bool, true, false, cond, ◌||◌, List, [], ◌∷◌, Some, None, Result, Err, drop, take, length, get_or, refl, ap, ◌∙◌, sym, arith, All, position, eqb, ◌*◌, ◌^◌}
 use Rattle.std.proofs.lemmas.Bool.{eqb-true}
 use Rattle.std.specs.List.{list_any, position_from}
 use Rattle.std.proofs.lemmas.Iterator.Adapters.{position_from-zero}
 use Rattle.std.proofs.lemmas.List.{drop_more, take_all}
 use Rattle.std.proofs.lemmas.List.Elements.{All-more, All-same, All-cons, All-nil}
-use Rattle.arithmetic.specs.Numbers.{gcd}
 use Rattle.residue.specs.declared.class.Power.{Power}
 use Rattle.residue.specs.declared.class.Term.{Term}
 use Rattle.residue.specs.declared.setup.SetupError.{SetupError}
 use Rattle.residue.specs.declared.setup.SetupError.TheVariants.{BadCount, BadWeight}
 use Rattle.residue.specs.Limits.{is_beyond_limit, IsModulus, AreWeights}
-use Rattle.problem_toml.specs.Facts.{ProblemView, KeepsRules, IsTerm, HasTerms, powers_degree, HasDegree, dimension_of, product_of, ArePairwiseCoprime}
+use Rattle.problem_toml.specs.Facts.{KeepsRules, IsTerm, HasTerms, powers_degree, HasDegree, dimension_of, product_of, ArePairwiseCoprime}
 use Rattle.problem_toml.specs.Header.{IsHeader}
 use Rattle.problem_toml.specs.declared.header.Header.{Header}
 use Rattle.problem_toml.specs.Reading.{degrees_fit}

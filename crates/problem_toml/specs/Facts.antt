@@ -1,5 +1,5 @@
 -- The rules that a problem keeps.
-use Rattle.std.specs.Prelude.{◌≡◌, ℕ, ◌+◌, ◌-◌, ◌*◌, ◌^◌, ◌<◌, ◌≤◌, ℤ, unsigned_abs, List, [], ◌∷◌, length, All, slice_index, Bool, true, false, IsTrue}
+use Rattle.std.specs.Prelude.{◌≡◌, ℕ, ◌+◌, ◌-◌, ◌*◌, ◌^◌, ◌<◌, ◌≤◌, ℤ, unsigned_abs, List, [], ◌∷◌, length, All, slice_index, Bool, true, false}
 use Rattle.arithmetic.specs.Numbers.{gcd}
 use Rattle.residue.specs.Degrees.{class_degree}
 use Rattle.residue.specs.Limits.{IsModulus, AreWeights}

@@ -1,10 +1,8 @@
 -- The numbers at the top of a problem text.
-use Rattle.std.specs.Prelude.{◌≡◌, ℕ, ◌+◌, ◌-◌, ◌%◌, ◌^◌, ◌<◌, ◌≤◌, ℤ, pos, negsuc, List, [], ◌∷◌, length, Bool, ◌||◌, ◌&&◌, not, Result, Ok, Err, nat_eq, nat_lt, nat_le, int_lt, int_le, unsigned_abs, if◌then◌else◌}
-use Rattle.std.specs.Option.{ok_or}
+use Rattle.std.specs.Prelude.{◌≡◌, ℕ, ◌+◌, ◌-◌, ◌%◌, ◌^◌, ◌<◌, ◌≤◌, ℤ, pos, List, [], ◌∷◌, length, not, Result, Ok, nat_eq, nat_lt, int_le, unsigned_abs}
 use Rattle.std.specs.List.{list_any}
-use Rattle.std.specs.Ordering.{int_eq}
 use Rattle.residue.specs.Limits.{is_beyond_limit}
-use Rattle.toml.specs.Data.{Members, Items, get_member}
+use Rattle.toml.specs.Data.{Members, get_member}
 use Rattle.problem_toml.specs.Keys.{key_of}
 use Rattle.problem_toml.specs.Tables.{◌>>=◌, keep, integer_at, integers_at, integer_or, within}
 use Rattle.problem_toml.specs.declared.error.ProblemError.{ProblemError}

@@ -1,5 +1,5 @@
 -- Reading a text as a problem: its rules in their order, and the first of them that is broken.
-use Rattle.std.specs.Prelude.{◌≡◌, ℕ, ◌*◌, ℤ, pos, List, [], ◌∷◌, length, Bool, ◌&&◌, Option, Some, None, Result, Ok, Err, nat_eq, nat_lt, int_le, if◌then◌else◌}
+use Rattle.std.specs.Prelude.{ℕ, ◌*◌, pos, List, [], ◌∷◌, length, Option, Some, Result, Ok, Err, nat_eq, nat_lt, int_le, if◌then◌else◌}
 use Rattle.std.specs.Option.{ok_or}
 use Rattle.std.specs.Str.{is_utf8}
 use Rattle.std.specs.Ordering.{int_eq}
@@ -12,7 +12,7 @@ use Rattle.problem_toml.specs.Tables.{◌>>=◌, keep, all_present, all_known, i
 use Rattle.problem_toml.specs.Header.{WrittenView, written_of, header_of, weights_of, moduli_of}
 use Rattle.problem_toml.specs.Terms.{terms_in}
 use Rattle.problem_toml.specs.declared.error.ProblemError.{ProblemError}
-use Rattle.problem_toml.specs.declared.error.ProblemError.TheVariants.{TooLong, NotToml, DegreeNotBuilt, FormNotBuilt}
+use Rattle.problem_toml.specs.declared.error.ProblemError.TheVariants.{TooLong, NotToml, DegreeNotBuilt}
 use Rattle.problem_toml.specs.declared.header.Header.{Header}
 use Rattle.problem_toml.specs.declared.name.Name.{Name}
 use Rattle.problem_toml.specs.declared.name.Name.TheVariants as key

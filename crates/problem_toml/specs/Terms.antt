@@ -1,12 +1,10 @@
 -- The terms of a problem text.
-use Rattle.std.specs.Prelude.{◌≡◌, ℕ, ℤ, pos, negsuc, List, [], ◌∷◌, Bool, ◌&&◌, Result, Ok, Err, nat_le, unsigned_abs, codes}
-use Rattle.std.specs.List.{list_all}
+use Rattle.std.specs.Prelude.{ℤ, pos, List, [], ◌∷◌, Bool, Result, Ok, Err, nat_le, unsigned_abs, codes}
 use Rattle.std.specs.Str.{bytes_eq}
 use Rattle.toml.specs.Data.{Data, table, Items, no_items, item, Members, get_member}
 use Rattle.residue.specs.declared.class.Class.TheVariants.{Hypersurface}
 use Rattle.residue.specs.declared.class.Power.{Power}
 use Rattle.residue.specs.declared.class.Term.{Term}
-use Rattle.problem_toml.specs.Facts.{powers_degree}
 use Rattle.problem_toml.specs.Keys.{key_of}
 use Rattle.problem_toml.specs.Tables.{◌>>=◌, keep, present, all_known, integer_of, integer_or, text_of, tables_at, within, items_count}
 use Rattle.problem_toml.specs.declared.error.ProblemError.{ProblemError}

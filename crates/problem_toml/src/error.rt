@@ -2,7 +2,6 @@
 
 ghost use Rattle.std.specs.Prelude.{◌≡◌};
 
-
 /// Why a text is no problem.
 #[derive(Clone, Copy, Debug, PartialEq, Eq, Drop)]
 pub enum ProblemError {

@@ -17,3 +17,5 @@ pub use problem::Problem;
 pub use reading::read;
 pub use refusal::{append_refusal, refusal_line};
 
+#[cfg(test)]
+mod tests;

@@ -5,7 +5,7 @@ ghost use Rattle.problem_toml.specs.Facts.{KeepsRules};
 use residue::{Integrals, Moduli, Setup};
 
 /// A problem that a text writes. Its type keeps the rules of the format.
-#[derive(Drop)]
+#[derive(Debug, Drop)]
 pub struct Problem {
     /// The dimension of the projective space, from 1 to 12.
     pub r: u8,
@@ -24,13 +24,13 @@ pub struct Problem {
     /// The integrals, of 1 to 32 terms in all, each of the dimension (r+1)d + r - 3 + m.
     pub integrals: Integrals,
     pub ghost rules: { KeepsRules (record {
-        rank = r;
-        degree = d;
-        marks = m;
-        weights = setup;
-        moduli = moduli;
-        top_bound = top_bound;
-        bottom_bound = bottom_bound;
-        integrals = integrals;
+      rank = r;
+      degree = d;
+      marks = m;
+      weights = setup;
+      moduli = moduli;
+      top_bound = top_bound;
+      bottom_bound = bottom_bound;
+      integrals = integrals;
     }) },
 }

@@ -127,11 +127,7 @@ fn moduli(alloc: Global, numbers: &[i64]) -> Result<Vec<Modulus>, ProblemError>
 }
 
 #[tactic(auto, using(crate::proofs::ModulusLists::product_of_one), unfolding(crate::specs::Reading::bounds_fit))]
-fn check_bounds(
-    moduli: &[Modulus],
-    top_bound: u64,
-    bottom_bound: u64,
-) -> Result<(), ProblemError>
+fn check_bounds(moduli: &[Modulus], top_bound: u64, bottom_bound: u64) -> Result<(), ProblemError>
     requires count { length moduli.now ≡ 1 }
     requires top { top_bound < 2 ^ 62 }
     requires bottom { bottom_bound < 2 ^ 62 }
@@ -146,7 +142,11 @@ fn dimension(header: &Header) -> u64
     requires { IsHeader header.now }
     ensures { result ≡ dimension_of header.now.rank header.now.degree header.now.marks }
 {
-    let (r, d, m) = (header.rank as u64, header.degree as u64, header.marks as u64);
+    let (r, d, m) = (
+        header.rank as u64,
+        header.degree as u64,
+        header.marks as u64,
+    );
     (r + 1) * d + r + m - 3
 }
 

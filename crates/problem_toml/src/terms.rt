@@ -8,7 +8,9 @@ ghost use Rattle.problem_toml.specs.Terms.{power_of, table_power, powers_in, ter
 
 use crate::error::ProblemError;
 use crate::name::Name;
-use crate::table::{as_integer, as_text, check, check_known, find, integer_or, limited, tables, value_at};
+use crate::table::{
+    as_integer, as_text, check, check_known, find, integer_or, limited, tables, value_at,
+};
 use residue::{Class, Power, Powers, Term};
 use std::alloc::Global;
 use toml::{Table, Value};
