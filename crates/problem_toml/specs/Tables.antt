@@ -20,6 +20,11 @@ abbrev pub Gives : {X Y : Type 0} → (X → Y) → Result X ProblemError → Re
 Gives view (Ok x) read = read ≡ Ok (view x)
 Gives view (Err e) read = e ≢ NoMemory → read ≡ Err e
 
+-- the same of a call that takes no memory
+abbrev pub GivesSurely : {X Y : Type 0} → (X → Y) → Result X ProblemError → Result Y ProblemError → Type 0
+GivesSurely view (Ok x) read = read ≡ Ok (view x)
+GivesSurely view (Err e) read = read ≡ Err e
+
 -- a rule that is kept or refuses
 abbrev pub keep : Bool → Result (Unit {0}) ProblemError
 keep holds = if holds then Ok tt else Err FormNotBuilt

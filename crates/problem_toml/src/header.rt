@@ -4,7 +4,7 @@ ghost use Rattle.std.specs.Prelude.{◌≡◌, ◌≤◌, ◌<◌, ◌^◌, ◌-
 ghost use Rattle.std.specs.List.{list_any};
 ghost use Rattle.toml.specs.View.{table_view};
 ghost use Rattle.residue.specs.Limits.{is_beyond_limit};
-ghost use Rattle.problem_toml.specs.Tables.{Gives, keep, within};
+ghost use Rattle.problem_toml.specs.Tables.{Gives, GivesSurely, keep, within};
 ghost use Rattle.problem_toml.specs.Header.{written_view, written_of, marks_at, lists_fit, bounds_of, header_of, IsHeader};
 
 use crate::error::ProblemError;
@@ -40,7 +40,7 @@ pub struct Header {
 
 #[tactic(auto, unfolding(crate::specs::Header::marks_at))]
 fn marks(table: &Table) -> Result<i64, ProblemError>
-    ensures { Gives (λ z. z) result (marks_at (table_view table.now)) }
+    ensures { GivesSurely (λ z. z) result (marks_at (table_view table.now)) }
 {
     integer_or(find(table, Name::Marks), 0)
 }
@@ -69,7 +69,7 @@ pub fn read_written(alloc: Global, table: &Table) -> Result<Written, ProblemErro
 }
 
 fn bound(number: i64) -> Result<u64, ProblemError>
-    ensures read { Gives (λ n. n) result (within 1 (2 ^ 62 - 1) number) }
+    ensures read { GivesSurely (λ n. n) result (within 1 (2 ^ 62 - 1) number) }
     ensures limits { IfOk result (λ n. (1 ≤ n) × (n < 2 ^ 62)) }
 {
     if number < 1 || number > MOST_BOUND {
@@ -88,7 +88,7 @@ fn is_any_beyond_limit(weights: &[i64]) -> bool
 
 #[tactic(auto, unfolding(crate::specs::Header::lists_fit))]
 fn check_lists(weights: &[i64], moduli: &[i64]) -> Result<(), ProblemError>
-    ensures read { Gives (λ u. u) result (lists_fit weights.now moduli.now) }
+    ensures read { GivesSurely (λ u. u) result (lists_fit weights.now moduli.now) }
     ensures weights { OnOk result (list_any is_beyond_limit weights.now ≡ false) }
     ensures moduli { OnOk result (length moduli.now ≡ 1) }
 {
@@ -100,7 +100,7 @@ fn check_lists(weights: &[i64], moduli: &[i64]) -> Result<(), ProblemError>
 
 #[tactic(auto, unfolding(crate::specs::Header::bounds_of))]
 fn bounds(written: &Written) -> Result<(u64, u64), ProblemError>
-    ensures read { Gives (λ bounds. bounds) result (bounds_of (written_view written.now)) }
+    ensures read { GivesSurely (λ bounds. bounds) result (bounds_of (written_view written.now)) }
     ensures top { IfOk result (λ bounds. (1 ≤ bounds.0) × (bounds.0 < 2 ^ 62)) }
     ensures bottom { IfOk result (λ bounds. (1 ≤ bounds.1) × (bounds.1 < 2 ^ 62)) }
 {
@@ -112,7 +112,7 @@ fn bounds(written: &Written) -> Result<(u64, u64), ProblemError>
 /// The numbers within their limits, where `terms` terms are written.
 #[tactic(auto, unfolding(crate::specs::Header::header_of))]
 pub fn read_header(written: &Written, terms: usize) -> Result<Header, ProblemError>
-    ensures read { Gives (λ header. header) result (header_of (written_view written.now) terms) }
+    ensures read { GivesSurely (λ header. header) result (header_of (written_view written.now) terms) }
     ensures limits { IfOk result IsHeader }
     ensures weights { OnOk result (list_any is_beyond_limit written.now.weights.items ≡ false) }
     ensures moduli { OnOk result (length written.now.moduli.items ≡ 1) }

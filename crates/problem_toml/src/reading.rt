@@ -8,7 +8,7 @@ ghost use Rattle.problem_toml.specs.Facts.{IsPower, IsTerm, HasDegree, powers_de
 ghost use Rattle.problem_toml.specs.Header.{written_view, IsHeader, weights_of, modulus_of, moduli_of};
 ghost use Rattle.problem_toml.specs.Problems.{view as problem_view};
 ghost use Rattle.problem_toml.specs.Reading.{document_of, degree_built, low_degree, version_one, bounds_fit, degrees_fit, problem_with, problem_of, reading};
-ghost use Rattle.problem_toml.specs.Tables.{Gives};
+ghost use Rattle.problem_toml.specs.Tables.{Gives, GivesSurely};
 
 use crate::error::ProblemError;
 use crate::header::{Header, Written, read_header, read_written};
@@ -56,7 +56,7 @@ fn document(alloc: Global, text: &[u8]) -> Result<Table, ProblemError>
 }
 
 fn check_low_degree(value: Option<&Value>) -> Result<(), ProblemError>
-    ensures { Gives (λ u. u) result (low_degree (option_map (λ v. view v.now) value.entry)) }
+    ensures { GivesSurely (λ u. u) result (low_degree (option_map (λ v. view v.now) value.entry)) }
 {
     match value {
         Some(value) => match value.as_integer() {
@@ -69,14 +69,14 @@ fn check_low_degree(value: Option<&Value>) -> Result<(), ProblemError>
 
 #[tactic(auto, unfolding(crate::specs::Reading::degree_built))]
 fn check_degree_built(table: &Table) -> Result<(), ProblemError>
-    ensures { Gives (λ u. u) result (degree_built (table_view table.now)) }
+    ensures { GivesSurely (λ u. u) result (degree_built (table_view table.now)) }
 {
     check_low_degree(find(table, Name::Degree))
 }
 
 #[tactic(auto, unfolding(crate::specs::Reading::version_one))]
 fn check_version(table: &Table) -> Result<(), ProblemError>
-    ensures { Gives (λ u. u) result (version_one (table_view table.now)) }
+    ensures { GivesSurely (λ u. u) result (version_one (table_view table.now)) }
 {
     let version = integer(table, Name::Version)?;
     check(version == 1)
@@ -87,7 +87,7 @@ fn setup(weights: &[i64], rank: u8) -> Result<Setup, ProblemError>
     requires least_rank { 1 ≤ rank }
     requires most_rank { rank ≤ 12 }
     requires limits { list_any is_beyond_limit weights.now ≡ false }
-    ensures read { Gives (λ setup. setup) result (weights_of rank weights.now) }
+    ensures read { GivesSurely (λ setup. setup) result (weights_of rank weights.now) }
     ensures count { IfOk result (λ setup. length setup ≡ rank + 1) }
     ensures weights { IfOk result AreWeights }
 {
@@ -100,7 +100,7 @@ fn setup(weights: &[i64], rank: u8) -> Result<Setup, ProblemError>
 
 #[tactic(auto, unfolding(crate::specs::Header::modulus_of))]
 fn modulus(number: i64) -> Result<Modulus, ProblemError>
-    ensures read { Gives (λ modulus. modulus) result (modulus_of number) }
+    ensures read { GivesSurely (λ modulus. modulus) result (modulus_of number) }
     ensures limits { IfOk result IsModulus }
 {
     check(number >= 0)?;
@@ -131,7 +131,7 @@ fn check_bounds(moduli: &[Modulus], top_bound: u64, bottom_bound: u64) -> Result
     requires count { length moduli.now ≡ 1 }
     requires top { top_bound < 2 ^ 62 }
     requires bottom { bottom_bound < 2 ^ 62 }
-    ensures read { Gives (λ u. u) result (bounds_fit moduli.now top_bound bottom_bound) }
+    ensures read { GivesSurely (λ u. u) result (bounds_fit moduli.now top_bound bottom_bound) }
     ensures bounds { OnOk result (2 * top_bound * bottom_bound < product_of moduli.now) }
 {
     let product = moduli[0].get() as u128;
@@ -169,7 +169,7 @@ fn check_degrees(terms: &[Term], d: u8, dimension: u64) -> Result<(), ProblemErr
     requires terms { All IsTerm terms.now }
     requires d_positive { 1 ≤ d }
     requires d_limited { d ≤ 10 }
-    ensures read { Gives (λ u. u) result (degrees_fit d dimension terms.now) }
+    ensures read { GivesSurely (λ u. u) result (degrees_fit d dimension terms.now) }
     ensures degrees { OnOk result (All (HasDegree d dimension) terms.now) }
 {
     for term in terms {

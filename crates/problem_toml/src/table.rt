@@ -6,7 +6,7 @@ ghost use Rattle.std.specs.BTreeMap.{keys};
 ghost use Rattle.toml.specs.Data.{get_member, as_table};
 ghost use Rattle.toml.specs.View.{view, table_view, items_view};
 ghost use Rattle.problem_toml.specs.Keys.{key_of};
-ghost use Rattle.problem_toml.specs.Tables.{Gives, present, all_present, all_known, is_known, integer_of, text_of, integers_of, integers_in, tables_of, integer_or, integer_at, integers_at, tables_at, within, keep};
+ghost use Rattle.problem_toml.specs.Tables.{Gives, GivesSurely, present, all_present, all_known, is_known, integer_of, text_of, integers_of, integers_in, tables_of, integer_or, integer_at, integers_at, tables_at, within, keep};
 
 use crate::error::ProblemError;
 use crate::name::Name;
@@ -22,7 +22,7 @@ pub fn find(table: &Table, name: Name) -> Option<&Value>
 
 /// The value at a key that has to be there.
 pub fn value_at(table: &Table, name: Name) -> Result<&Value, ProblemError>
-    ensures { Gives (λ v. view v.now) result (present name (table_view table.now)) }
+    ensures { GivesSurely (λ v. view v.now) result (present name (table_view table.now)) }
 {
     match find(table, name) {
         Some(value) => Ok(value),
@@ -32,7 +32,7 @@ pub fn value_at(table: &Table, name: Name) -> Result<&Value, ProblemError>
 
 /// The value where it is an integer.
 pub fn as_integer(value: &Value) -> Result<i64, ProblemError>
-    ensures { Gives (λ z. z) result (integer_of (view value.now)) }
+    ensures { GivesSurely (λ z. z) result (integer_of (view value.now)) }
 {
     match value.as_integer() {
         Some(number) => Ok(number),
@@ -42,7 +42,7 @@ pub fn as_integer(value: &Value) -> Result<i64, ProblemError>
 
 /// The value where it is a text.
 pub fn as_text(value: &Value) -> Result<&str, ProblemError>
-    ensures { Gives (λ text. text.now) result (text_of (view value.now)) }
+    ensures { GivesSurely (λ text. text.now) result (text_of (view value.now)) }
 {
     match value.as_str() {
         Some(text) => Ok(text),
@@ -53,14 +53,14 @@ pub fn as_text(value: &Value) -> Result<&str, ProblemError>
 /// The integer at a key that has to be there.
 #[tactic(auto, unfolding(crate::specs::Tables::integer_at))]
 pub fn integer(table: &Table, name: Name) -> Result<i64, ProblemError>
-    ensures { Gives (λ z. z) result (integer_at name (table_view table.now)) }
+    ensures { GivesSurely (λ z. z) result (integer_at name (table_view table.now)) }
 {
     as_integer(value_at(table, name)?)
 }
 
 /// The integer, or another where it is left out.
 pub fn integer_or(value: Option<&Value>, otherwise: i64) -> Result<i64, ProblemError>
-    ensures { Gives (λ z. z) result (integer_or otherwise (option_map (λ v. view v.now) value.entry)) }
+    ensures { GivesSurely (λ z. z) result (integer_or otherwise (option_map (λ v. view v.now) value.entry)) }
 {
     match value {
         Some(value) => as_integer(value),
@@ -102,14 +102,14 @@ fn integers_among(alloc: Global, values: &[Value]) -> Result<Vec<i64>, ProblemEr
 /// The values of an array of tables at a key that has to be there.
 #[tactic(auto, unfolding(crate::specs::Tables::tables_at))]
 pub fn tables(table: &Table, name: Name) -> Result<&[Value], ProblemError>
-    ensures { Gives (λ values. items_view values.now) result (tables_at name (table_view table.now)) }
+    ensures { GivesSurely (λ values. items_view values.now) result (tables_at name (table_view table.now)) }
 {
     as_tables(value_at(table, name)?)
 }
 
 #[tactic(auto, using(crate::proofs::Arrays::tables_seen))]
 fn as_tables(value: &Value) -> Result<&[Value], ProblemError>
-    ensures { Gives (λ values. items_view values.now) result (tables_of (view value.now)) }
+    ensures { GivesSurely (λ values. items_view values.now) result (tables_of (view value.now)) }
 {
     match value.as_array() {
         Some(values) if are_tables(values.as_slice()) => Ok(values.as_slice()),
@@ -126,7 +126,7 @@ fn are_tables(values: &[Value]) -> bool
 /// Every key of the list has to be there.
 #[tactic(auto, using(std::proofs::lemmas::List::drop_more))]
 pub fn check_present(table: &Table, names: &[Name]) -> Result<(), ProblemError>
-    ensures { Gives (λ u. u) result (all_present names.now (table_view table.now)) }
+    ensures { GivesSurely (λ u. u) result (all_present names.now (table_view table.now)) }
 {
     for name in names {
         value_at(table, *name)?;
@@ -149,7 +149,7 @@ fn first_unknown_key<'a>(table: &'a Table, names: &[Name]) -> Option<&'a String>
 
 /// Every key of the table has to be one of the list.
 pub fn check_known(table: &Table, names: &[Name]) -> Result<(), ProblemError>
-    ensures { Gives (λ u. u) result (all_known names.now (table_view table.now)) }
+    ensures { GivesSurely (λ u. u) result (all_known names.now (table_view table.now)) }
 {
     match first_unknown_key(table, names) {
         None => Ok(()),
@@ -159,7 +159,7 @@ pub fn check_known(table: &Table, names: &[Name]) -> Result<(), ProblemError>
 
 /// A number that has to be from `least` to `most`.
 pub fn limited(least: u8, most: u8, number: i64) -> Result<u8, ProblemError>
-    ensures read { Gives (λ n. n) result (within least most number) }
+    ensures read { GivesSurely (λ n. n) result (within least most number) }
     ensures limits { IfOk result (λ n. (least ≤ n) × (n ≤ most)) }
 {
     if number < least as i64 || number > most as i64 {
@@ -170,7 +170,7 @@ pub fn limited(least: u8, most: u8, number: i64) -> Result<u8, ProblemError>
 
 /// A rule that has to hold.
 pub fn check(holds: bool) -> Result<(), ProblemError>
-    ensures read { Gives (λ u. u) result (keep holds) }
+    ensures read { GivesSurely (λ u. u) result (keep holds) }
     ensures holds { OnOk result (holds ≡ true) }
 {
     if holds {

@@ -3,7 +3,7 @@
 ghost use Rattle.std.specs.Prelude.{◌≡◌, ◌≤◌, ◌<◌, IfOk, All, length};
 ghost use Rattle.toml.specs.View.{view, table_view, items_view};
 ghost use Rattle.problem_toml.specs.Facts.{IsPower, IsTerm};
-ghost use Rattle.problem_toml.specs.Tables.{Gives};
+ghost use Rattle.problem_toml.specs.Tables.{Gives, GivesSurely};
 ghost use Rattle.problem_toml.specs.Terms.{power_of, table_power, powers_in, term_of, table_term, terms_in};
 
 use crate::error::ProblemError;
@@ -25,7 +25,7 @@ const MOST_CLASSES: usize = 16;
 
 #[tactic(auto, unfolding(crate::specs::Terms::power_of))]
 fn power(table: &Table) -> Result<Power, ProblemError>
-    ensures read { Gives (λ power. power) result (power_of (table_view table.now)) }
+    ensures read { GivesSurely (λ power. power) result (power_of (table_view table.now)) }
     ensures limits { IfOk result IsPower }
 {
     let kind = as_text(value_at(table, Name::Kind)?)?;
@@ -43,7 +43,7 @@ fn power(table: &Table) -> Result<Power, ProblemError>
 }
 
 fn table_power(value: &Value) -> Result<Power, ProblemError>
-    ensures read { Gives (λ power. power) result (table_power (view value.now)) }
+    ensures read { GivesSurely (λ power. power) result (table_power (view value.now)) }
     ensures limits { IfOk result IsPower }
 {
     match value.as_table() {

@@ -8,6 +8,6 @@ returns-in-None c =
     rw (← known)
 
 pub returns-in-Some : goal.returns-in-Some
-returns-in-Some c = λ room.
+returns-in-Some c =
     let unknown = unknown_found (Some c.in-Some.field-0) c.args.names.now c.args.table.now.entries (rw c.in-Some.is at c.first_unknown_key.ensures) in
     rw (← unknown)
