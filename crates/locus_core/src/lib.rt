@@ -6,3 +6,6 @@ mod top;
 mod words;
 
 pub use top::{Answer, locus};
+
+#[cfg(test)]
+mod tests;
