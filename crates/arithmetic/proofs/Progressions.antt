@@ -12,7 +12,7 @@ product_below-same zero f g h = refl
 product_below-same (suc n) f g h =
     ap₂ (λ x y. x *ℤ y) (product_below-same n f g (λ t l. h t (omega arith))) (h n (omega arith))
 
-times-+ℤ : (a b c : ℤ) → (a +ℤ b) *ℤ c ≡ a *ℤ c +ℤ b *ℤ c
+pub times-+ℤ : (a b c : ℤ) → (a +ℤ b) *ℤ c ≡ a *ℤ c +ℤ b *ℤ c
 times-+ℤ a b c = *ℤ_comm (a +ℤ b) c ∙ *ℤ-+ℤ c a b ∙ ap₂ (λ x y. x +ℤ y) (*ℤ_comm c a) (*ℤ_comm c b)
 
 -- one more term

@@ -1,11 +1,11 @@
 -- Laws of the residues of fractions.
 use Rattle.std.proofs.Common.{◌≡◌, ℕ, zero, suc, ◌+◌, ◌-◌, ◌*◌, ◌/◌, ◌%◌, ◌^◌, ◌<◌, ℤ, pos, negsuc, ◌+ℤ◌, ◌*ℤ◌, nat_abs, List, [], ◌∷◌, sum, sym, ap, ap₂, subst, ◌∙◌, arith, mul_comm}
 use Rattle.std.specs.Int.{◌∣◌}
-use Rattle.std.proofs.Math.Nat.{mod-lt, mod-mod, div-add-mod, dvd-mul_right_of_dvd, dvd-add_iff_left, dvd-add_iff_right, dvd_refl, one-dvd, mul-one, add-mod-mod, pow-suc, pow-zero}
+use Rattle.std.proofs.Math.Nat.{mod-lt, mod-eq_of_lt, mod-mod, div-add-mod, dvd-mul_right_of_dvd, dvd-add_iff_left, dvd-add_iff_right, dvd_refl, one-dvd, mul-one, add-mod-mod, pow-suc, pow-zero}
 use Rattle.std.proofs.lemmas.Nat.{mul-mod_first}
 use Rattle.std.proofs.lemmas.List.Sums.{sum_by-cons}
-use Rattle.arithmetic.specs.Numbers.{power, reduce, gcd}
-use Rattle.arithmetic.specs.Fractions.{Fraction, times, plus, sum_of_fractions, IsResidue}
+use Rattle.arithmetic.specs.Numbers.{power, reduce, gcd, Leaves}
+use Rattle.arithmetic.specs.Fractions.{Fraction, fraction, times, plus, sum_of_fractions, IsResidue}
 use Rattle.arithmetic.proofs.NumberLaws.{reduce-*ℤ, reduce-+ℤ, reduce-pos, divides_from_same, same_from_divides}
 use Rattle.arithmetic.proofs.Divisors.{gcd_is, gcd_from_IsGcd, gcd_comm, gcd-mod, IsUnit, IsUnit-from_gcd, gcd-from_IsUnit}
 use Rattle.arithmetic.proofs.Congruences.{same_refl, same_of_eq, same_sym, same_trans, same_add, same_mul, same_mod}
@@ -86,6 +86,20 @@ IsResidue-from m f x top bottom h et eb below one e = record {
       (reduce-*ℤ m (pos x) f.bottom h ∙ mul-mod_first x (reduce m f.bottom) m ∙ ap (λ n. (x * n) % m) eb ∙ e ∙ sym et);
 }
 
+-- a whole number, over 1
+pub unit_one : (m : ℕ) → gcd 1 m ≡ 1
+unit_one m = gcd_from_IsGcd 1 m 1 (dvd_refl 1, one-dvd m, λ d p q. p)
+
+pub IsResidue-whole : {m x : ℕ} (z : ℤ) → Leaves m z x → IsResidue m (fraction z (pos 1)) x
+IsResidue-whole {m} {x} z l =
+    let below = l.below in
+    record {
+      below = below;
+      unit = unit_one m;
+      divides = divides_from_same m (pos x *ℤ pos 1) z (omega arith)
+          (ap (reduce m) (ap pos (mul-one x)) ∙ reduce-pos m x ∙ mod-eq_of_lt below ∙ l.is);
+    }
+
 pub residue_equation : (m : ℕ) (f : Fraction) (x : ℕ) → 0 < m → IsResidue m f x → (x * reduce m f.bottom) % m ≡ reduce m f.top
 unfolding reduce
 residue_equation m f x h r =
@@ -147,7 +161,7 @@ pub data AreResidues (m : ℕ) : List Fraction → List ℕ → Type 0 where
 pub IsResidue-sum : (m : ℕ) (fs : List Fraction) (xs : List ℕ) → 1 < m → AreResidues m fs xs → IsResidue m (sum_of_fractions fs) (sum xs % m)
 IsResidue-sum m [] [] h none = record {
   below = mod-lt 0 (omega arith);
-  unit = gcd_from_IsGcd 1 m 1 (dvd_refl 1, one-dvd m, λ d p q. p);
+  unit = unit_one m;
   divides = divides_from_same m (pos (0 % m) *ℤ pos 1) (pos 0) (omega arith) (ap (reduce m) (ap pos (mul-one (0 % m))) ∙ reduce-pos m (0 % m) ∙ mod-mod 0 m ∙ sym (reduce-pos m 0));
 }
 IsResidue-sum m [] (x ∷ xs) h rs = elim rs [ ]

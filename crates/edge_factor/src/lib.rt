@@ -7,9 +7,9 @@
 //! (Localization of virtual classes, 1999); the factor `1/a` for the automorphisms of the edge is inside.
 #![tactic(auto)]
 
-ghost use Rattle.std.specs.Prelude.{◌≡◌, ◌≢◌, ℕ, ◌+◌, ◌-◌, ◌*◌, ◌%◌, ◌<◌, ◌≤◌, ◌↔◌, length, IfOk, IsErr, nat_abs};
-ghost use Rattle.arithmetic.specs.Numbers.{gcd, Leaves};
-ghost use Rattle.arithmetic.specs.Fractions.{IsResidue};
+ghost use Rattle.std.specs.Prelude.{◌≡◌, ◌≢◌, ◌+◌, ◌*◌, ◌<◌, ◌≤◌, length};
+ghost use Rattle.arithmetic.specs.Numbers.{Leaves};
+ghost use Rattle.residue.specs.Answers.{GivesResidue};
 ghost use Rattle.localisation.specs.EdgeFraction.{edge_fraction, edge_top, edge_bottom, colour_product, colour_factor, other_colours_product};
 
 use residue::{Modulus, NoUnit, Setup};
@@ -25,9 +25,7 @@ pub fn edge(setup: &Setup, i: u8, j: u8, a: u8, modulus: &Modulus) -> Result<u64
     requires distinct { i ≢ j }
     requires a_positive { 1 ≤ a }
     requires a_limited { a ≤ 10 }
-    ensures refused { IsErr result ↔ (gcd (nat_abs (edge_fraction setup.now i j a).bottom) modulus.now ≢ 1) }
-    ensures unit { IfOk result (λ _. gcd (nat_abs (edge_fraction setup.now i j a).bottom) modulus.now ≡ 1) }
-    ensures value { IfOk result (λ x. IsResidue modulus.now (edge_fraction setup.now i j a) x) }
+    ensures { GivesResidue modulus.now (edge_fraction setup.now i j a) result }
 {
     modulus.quotient(top(setup, a, modulus), bottom(setup, i, j, a, modulus))
 }

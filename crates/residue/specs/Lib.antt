@@ -1,3 +1,4 @@
+pub mod Answers
 pub mod Degrees
 pub mod Limits
 pub mod Montgomery

@@ -1,0 +1,4 @@
+pub mod EndLaws
+pub mod Multinomials
+pub mod PlainLaws
+pub mod PsiLaws
