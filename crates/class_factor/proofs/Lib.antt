@@ -1,0 +1,2 @@
+pub mod OtherClasses
+pub mod SectionTerms
