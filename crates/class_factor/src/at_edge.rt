@@ -4,9 +4,10 @@ ghost use Rattle.std.specs.Prelude.{◌≢◌, ◌+◌, ◌-◌, ◌*◌, ◌<�
 ghost use Rattle.arithmetic.specs.Numbers.{Leaves};
 ghost use Rattle.localisation.specs.ClassValue.{class_edge, sections_product, inner_product, negated_inner_product};
 ghost use Rattle.residue.specs.Answers.{GivesResidue};
+ghost use Rattle.residue.specs.Ratios.{IsRatioOf};
 ghost use Rattle.residue.specs.Degrees.{HasParameterWithinLimit};
 
-use residue::{Class, Modulus, NoUnit, Setup};
+use residue::{Class, Modulus, NoUnit, Ratio, Setup};
 
 /// The residue of the fraction of a class at an edge of degree `a`, from 1 to 10, between vertices of two different
 /// colours `i` and `j`, each at most the rank. The parameter of the class, where it has one, is within its limit.
@@ -29,24 +30,50 @@ pub fn edge_part(
     requires a_limited { a ≤ 10 }
     ensures { GivesResidue modulus.now (class_edge setup.now class.now i j a) result }
 {
+    edge_part_ratio(setup, class, i, j, a, modulus).residue(modulus)
+}
+
+/// The residues of the top and the bottom of the same fraction, without a division.
+pub fn edge_part_ratio(
+    setup: &Setup,
+    class: &Class,
+    i: u8,
+    j: u8,
+    a: u8,
+    modulus: &Modulus,
+) -> Ratio
+    requires parameter { HasParameterWithinLimit class.now }
+    requires i_within { i < length setup.now }
+    requires j_within { j < length setup.now }
+    requires a_positive { 1 ≤ a }
+    requires a_limited { a ≤ 10 }
+    ensures { IsRatioOf modulus.now (class_edge setup.now class.now i j a) result }
+{
     let degree = a as u64;
     let of_degree = modulus.of_u64(degree);
     match *class {
         Class::Hypersurface { b } => {
             let sections = b as u64 * degree;
-            let top = sections_product(setup, i, j, sections, modulus);
-            modulus.quotient(top, modulus.pow(of_degree, sections + 1))
+            Ratio {
+                top: sections_product(setup, i, j, sections, modulus),
+                bottom: modulus.pow(of_degree, sections + 1),
+            }
         }
         Class::R1 { k } => {
             let sections = k as u64 * degree;
-            let top = negated_inner_product(setup, i, j, sections, modulus);
-            modulus.quotient(top, modulus.pow(of_degree, sections - 1))
+            Ratio {
+                top: negated_inner_product(setup, i, j, sections, modulus),
+                bottom: modulus.pow(of_degree, sections - 1),
+            }
         }
-        Class::Contact => {
-            let top = inner_product(setup, i, j, 2 * degree, modulus);
-            modulus.quotient(top, modulus.pow(of_degree, 2 * degree - 1))
+        Class::Contact => Ratio {
+            top: inner_product(setup, i, j, 2 * degree, modulus),
+            bottom: modulus.pow(of_degree, 2 * degree - 1),
+        },
+        Class::Mark { .. } | Class::Incidence { .. } | Class::Psi { .. } => {
+            let one = modulus.of_u64(1);
+            Ratio::whole(one, modulus)
         }
-        Class::Mark { .. } | Class::Incidence { .. } | Class::Psi { .. } => Ok(modulus.of_u64(1)),
     }
 }
 

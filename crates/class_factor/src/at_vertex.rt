@@ -5,9 +5,10 @@ ghost use Rattle.arithmetic.specs.Numbers.{Leaves, power};
 ghost use Rattle.localisation.specs.Weights.{weight};
 ghost use Rattle.localisation.specs.ClassValue.{class_vertex};
 ghost use Rattle.residue.specs.Answers.{GivesResidue};
+ghost use Rattle.residue.specs.Ratios.{IsRatioOf};
 ghost use Rattle.residue.specs.Degrees.{HasParameterWithinLimit};
 
-use residue::{Class, Modulus, NoUnit, Setup};
+use residue::{Class, Modulus, NoUnit, Ratio, Setup};
 
 /// The residue of the fraction of a class at a vertex of colour `c`, at most the rank, with `s` edges, from 1 to 10. The
 /// parameter of the class, where it has one, is within its limit.
@@ -27,21 +28,35 @@ pub fn vertex_part(
     requires s_limited { s ≤ 10 }
     ensures { GivesResidue modulus.now (class_vertex setup.now class.now c s) result }
 {
+    vertex_part_ratio(setup, class, c, s, modulus).residue(modulus)
+}
+
+/// The residues of the top and the bottom of the same fraction, without a division.
+pub fn vertex_part_ratio(setup: &Setup, class: &Class, c: u8, s: u8, modulus: &Modulus) -> Ratio
+    requires c_within { c < length setup.now }
+    requires s_positive { 1 ≤ s }
+    ensures { IsRatioOf modulus.now (class_vertex setup.now class.now c s) result }
+{
     let one = modulus.of_u64(1);
     match *class {
         Class::Hypersurface { b } => {
             let scale = modulus.of_u64(b as u64);
-            modulus.quotient(one, scaled_power(setup, scale, c, s - 1, modulus))
+            Ratio {
+                top: one,
+                bottom: scaled_power(setup, scale, c, s - 1, modulus),
+            }
         }
         Class::R1 { k } => {
             let scale = modulus.sub(modulus.of_u64(0), modulus.of_u64(k as u64));
-            Ok(scaled_power(setup, scale, c, s - 1, modulus))
+            Ratio::whole(scaled_power(setup, scale, c, s - 1, modulus), modulus)
         }
         Class::Contact => {
             let scale = modulus.of_u64(2);
-            Ok(scaled_power(setup, scale, c, s - 1, modulus))
+            Ratio::whole(scaled_power(setup, scale, c, s - 1, modulus), modulus)
         }
-        Class::Mark { .. } | Class::Incidence { .. } | Class::Psi { .. } => Ok(one),
+        Class::Mark { .. } | Class::Incidence { .. } | Class::Psi { .. } => Ratio::whole(
+            one, modulus,
+        ),
     }
 }
 

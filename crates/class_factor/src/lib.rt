@@ -16,8 +16,8 @@
 mod at_edge;
 mod at_vertex;
 
-pub use at_edge::edge_part;
-pub use at_vertex::vertex_part;
+pub use at_edge::{edge_part, edge_part_ratio};
+pub use at_vertex::{vertex_part, vertex_part_ratio};
 
 #[cfg(test)]
 mod tests;

@@ -10,9 +10,10 @@
 ghost use Rattle.std.specs.Prelude.{◌≡◌, ◌≢◌, ◌+◌, ◌*◌, ◌<◌, ◌≤◌, length};
 ghost use Rattle.arithmetic.specs.Numbers.{Leaves};
 ghost use Rattle.residue.specs.Answers.{GivesResidue};
+ghost use Rattle.residue.specs.Ratios.{IsRatioOf};
 ghost use Rattle.localisation.specs.EdgeFraction.{edge_fraction, edge_top, edge_bottom, colour_product, colour_factor, other_colours_product};
 
-use residue::{Modulus, NoUnit, Setup};
+use residue::{Modulus, NoUnit, Ratio, Setup};
 
 /// The residue of the fraction of an edge of degree `a`, from 1 to 10, between vertices of two different colours `i`
 /// and `j`, each at most the rank.
@@ -27,7 +28,20 @@ pub fn edge(setup: &Setup, i: u8, j: u8, a: u8, modulus: &Modulus) -> Result<u64
     requires a_limited { a ≤ 10 }
     ensures { GivesResidue modulus.now (edge_fraction setup.now i j a) result }
 {
-    modulus.quotient(top(setup, a, modulus), bottom(setup, i, j, a, modulus))
+    edge_ratio(setup, i, j, a, modulus).residue(modulus)
+}
+
+/// The residues of the top and the bottom of the same fraction, without a division.
+pub fn edge_ratio(setup: &Setup, i: u8, j: u8, a: u8, modulus: &Modulus) -> Ratio
+    requires i_within { i < length setup.now }
+    requires j_within { j < length setup.now }
+    requires a_limited { a ≤ 10 }
+    ensures { IsRatioOf modulus.now (edge_fraction setup.now i j a) result }
+{
+    Ratio {
+        top: top(setup, a, modulus),
+        bottom: bottom(setup, i, j, a, modulus),
+    }
 }
 
 /// The residue of the top.

@@ -2,3 +2,4 @@ pub mod Answers
 pub mod Degrees
 pub mod Limits
 pub mod Montgomery
+pub mod Ratios

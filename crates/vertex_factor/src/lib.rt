@@ -30,8 +30,8 @@ mod plain;
 mod psi;
 mod sums;
 
-pub use plain::{flag, pair, tangent, vertex};
-pub use psi::vertex_psi;
+pub use plain::{flag, pair, tangent, vertex, vertex_ratio};
+pub use psi::{vertex_psi, vertex_psi_ratio};
 
 #[cfg(test)]
 mod tests;

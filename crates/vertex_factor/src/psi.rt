@@ -5,11 +5,12 @@ ghost use Rattle.arithmetic.specs.Numbers.{Leaves, factorial};
 ghost use Rattle.trees.specs.Numbering.{product_of};
 ghost use Rattle.localisation.specs.VertexFraction.{vertex_fraction, psi_vertex, stable_psi_vertex, multinomial};
 ghost use Rattle.residue.specs.Answers.{GivesResidue};
+ghost use Rattle.residue.specs.Ratios.{IsRatioOf};
 ghost use Rattle.vertex_factor.specs.Ends.{end, ends_of, IsEndAt};
 
-use crate::plain::{tangent, vertex};
+use crate::plain::{tangent, vertex_ratio};
 use crate::sums::{difference, sums_over};
-use residue::{Modulus, NoUnit, Setup};
+use residue::{Modulus, NoUnit, Ratio, Setup};
 
 /// The residue of the factor of a vertex of colour `c` with the ends `ends` and one mark for each of `exponents`, which
 /// are the exponents of the psi classes there.
@@ -34,16 +35,35 @@ pub fn vertex_psi(
     requires exponents_limited { All (λ k. k ≤ 151) exponents.now }
     ensures { GivesResidue modulus.now (vertex_fraction setup.now c (ends_of ends.now) exponents.now) result }
 {
+    vertex_psi_ratio(setup, c, ends, exponents, modulus).residue(modulus)
+}
+
+/// The residues of the top and the bottom of the same factor, without a division.
+pub fn vertex_psi_ratio(
+    setup: &Setup,
+    c: u8,
+    ends: &[(u8, u8)],
+    exponents: &[u8],
+    modulus: &Modulus,
+) -> Ratio
+    requires c_within { c < length setup.now }
+    requires ends_some { 1 ≤ length ends.now }
+    requires ends_limited { length ends.now ≤ 10 }
+    requires ends_at { All (IsEndAt setup.now c) ends.now }
+    requires marks_limited { length exponents.now ≤ 12 }
+    requires exponents_limited { All (λ k. k ≤ 151) exponents.now }
+    ensures { IsRatioOf modulus.now (vertex_fraction setup.now c (ends_of ends.now) exponents.now) result }
+{
     let exponent = sum(exponents);
     if exponent == 0 {
-        return vertex(setup, c, ends, exponents.len() as u8, modulus);
+        return vertex_ratio(setup, c, ends, exponents.len() as u8, modulus);
     }
     let special = ends.len() + exponents.len();
     if special == 2 {
         return psi_tip(setup, c, ends[0].0, ends[0].1, exponent, modulus);
     }
     if special - 3 < exponent as usize {
-        return Ok(modulus.of_u64(0));
+        return Ratio::whole(modulus.of_u64(0), modulus);
     }
     stable_psi(setup, c, ends, exponents, modulus)
 }
@@ -56,32 +76,21 @@ fn sum(exponents: &[u8]) -> u64
     exponents.iter().map(|k| *k as u64).sum()
 }
 
-/// The residue of the factor of a vertex with one edge and one mark, which has an exponent above 0.
-fn psi_tip(
-    setup: &Setup,
-    c: u8,
-    u: u8,
-    a: u8,
-    exponent: u64,
-    modulus: &Modulus,
-) -> Result<u64, NoUnit>
+/// The factor of a vertex with one edge and one mark, which has an exponent above 0.
+fn psi_tip(setup: &Setup, c: u8, u: u8, a: u8, exponent: u64, modulus: &Modulus) -> Ratio
     requires c_within { c < length setup.now }
     requires u_within { u < length setup.now }
-    ensures { GivesResidue modulus.now (psi_vertex setup.now c (end u a ∷ []) (exponent ∷ [])) result }
+    ensures { IsRatioOf modulus.now (psi_vertex setup.now c (end u a ∷ []) (exponent ∷ [])) result }
 {
-    let top = modulus.pow(difference(setup, u, c, modulus), exponent);
-    modulus.quotient(top, modulus.pow(modulus.of_u64(a as u64), exponent))
+    Ratio {
+        top: modulus.pow(difference(setup, u, c, modulus), exponent),
+        bottom: modulus.pow(modulus.of_u64(a as u64), exponent),
+    }
 }
 
-/// The residue of the factor of a vertex whose edges and marks are at least 3, and whose exponents have a sum that is
-/// at most their number less 3.
-fn stable_psi(
-    setup: &Setup,
-    c: u8,
-    ends: &[(u8, u8)],
-    exponents: &[u8],
-    modulus: &Modulus,
-) -> Result<u64, NoUnit>
+/// The factor of a vertex whose edges and marks are at least 3, and whose exponents have a sum that is at most their
+/// number less 3.
+fn stable_psi(setup: &Setup, c: u8, ends: &[(u8, u8)], exponents: &[u8], modulus: &Modulus) -> Ratio
     requires c_within { c < length setup.now }
     requires ends_some { 1 ≤ length ends.now }
     requires ends_limited { length ends.now ≤ 10 }
@@ -89,19 +98,20 @@ fn stable_psi(
     requires marks_limited { length exponents.now ≤ 12 }
     requires stable { 3 ≤ length ends.now + length exponents.now }
     requires within { sum exponents.now ≤ length ends.now + length exponents.now - 3 }
-    ensures { GivesResidue modulus.now (stable_psi_vertex setup.now c (ends_of ends.now) exponents.now) result }
+    ensures { IsRatioOf modulus.now (stable_psi_vertex setup.now c (ends_of ends.now) exponents.now) result }
 {
     let valence = ends.len() as u64;
-    let left = valence + exponents.len() as u64 - 3 - sum(exponents);
+    let dimension = valence + exponents.len() as u64 - 3;
+    let left = dimension - sum(exponents);
     let sums = sums_over(setup, c, ends, modulus);
     let tangents = modulus.pow(tangent(setup, c, modulus), valence - 1);
     let at_ends = modulus.mul(tangents, sums.degrees);
     let crossed = modulus.mul(at_ends, modulus.pow(sums.crossed, left));
-    let ways = modulus.of_u64(multinomial(valence + exponents.len() as u64 - 3, exponents));
-    modulus.quotient(
-        modulus.mul(crossed, ways),
-        modulus.pow(sums.differences, left + 1),
-    )
+    let ways = modulus.of_u64(multinomial(dimension, exponents));
+    Ratio {
+        top: modulus.mul(crossed, ways),
+        bottom: modulus.pow(sums.differences, left + 1),
+    }
 }
 
 /// The multinomial coefficient of `n`, at most 19, over the exponents and what is left.
