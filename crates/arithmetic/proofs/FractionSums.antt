@@ -1,5 +1,5 @@
 -- Sums of fractions that are never reduced: they may be cut anywhere.
-use Rattle.std.proofs.Common.{◌≡◌, ℕ, List, [], ◌∷◌, ◌++◌, ℤ, pos, ◌+ℤ◌, ◌*ℤ◌, refl, sym, ap, ap₂, ◌∙◌}
+use Rattle.std.proofs.Common.{◌≡◌, List, [], ◌∷◌, ◌++◌, ℤ, pos, ◌+ℤ◌, ◌*ℤ◌, sym, ap, ap₂, ◌∙◌}
 use Rattle.std.proofs.Math.IntN.{*ℤ-one, *ℤ_comm, zero-*ℤ, +ℤ_idl, +ℤ_idr, +ℤ_assoc}
 use Rattle.arithmetic.specs.Fractions.{Fraction, fraction, times, plus, sum_of_fractions}
 use Rattle.arithmetic.proofs.NumberLaws.{*ℤ_assoc, *ℤ-+ℤ}
@@ -27,12 +27,12 @@ pub plus-assoc : (f g h : Fraction) → plus (plus f g) h ≡ plus f (plus g h)
 plus-assoc f g h =
     ap₂ fraction
     (ap (λ z. z +ℤ h.top *ℤ (f.bottom *ℤ g.bottom)) (*ℤ_comm (f.top *ℤ g.bottom +ℤ g.top *ℤ f.bottom) h.bottom
-        ∙ *ℤ-+ℤ h.bottom (f.top *ℤ g.bottom) (g.top *ℤ f.bottom)
-        ∙ ap₂ (λ u v. u +ℤ v) (turn h.bottom f.top g.bottom) (ends_change h.bottom g.top f.bottom))
+    ∙ *ℤ-+ℤ h.bottom (f.top *ℤ g.bottom) (g.top *ℤ f.bottom)
+    ∙ ap₂ (λ u v. u +ℤ v) (turn h.bottom f.top g.bottom) (ends_change h.bottom g.top f.bottom))
     ∙ ap (λ z. f.top *ℤ (g.bottom *ℤ h.bottom) +ℤ f.bottom *ℤ (g.top *ℤ h.bottom) +ℤ z) (second_first h.top f.bottom g.bottom)
     ∙ +ℤ_assoc (f.top *ℤ (g.bottom *ℤ h.bottom)) (f.bottom *ℤ (g.top *ℤ h.bottom)) (f.bottom *ℤ (h.top *ℤ g.bottom))
     ∙ ap (λ z. f.top *ℤ (g.bottom *ℤ h.bottom) +ℤ z) (sym (*ℤ-+ℤ f.bottom (g.top *ℤ h.bottom) (h.top *ℤ g.bottom))
-        ∙ *ℤ_comm f.bottom (g.top *ℤ h.bottom +ℤ h.top *ℤ g.bottom)))
+    ∙ *ℤ_comm f.bottom (g.top *ℤ h.bottom +ℤ h.top *ℤ g.bottom)))
     (*ℤ_assoc f.bottom g.bottom h.bottom)
 
 pub plus-zero : (f : Fraction) → plus f (fraction (pos 0) (pos 1)) ≡ f
