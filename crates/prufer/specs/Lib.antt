@@ -1,0 +1,5 @@
+pub mod EdgeLists
+pub mod Correspondence
+pub mod Padding
+pub mod WordFields
+pub mod PairsFields
