@@ -22,55 +22,42 @@ fn word_of(n: u8, edges: &Edges) -> Option<Result<Word, NotATree>> {
     Some(encode(n, edges))
 }
 
+/// Whether the word and the pairs stand for each other.
+fn stand_for_each_other(n: u8, letters: &[u8], pairs: &[(u8, u8)]) -> bool {
+    let Some(word) = Word::of(letters) else {
+        return false;
+    };
+    let Some(edges) = Edges::of(pairs) else {
+        return false;
+    };
+    tree_of(n, &word) == Some(edges) && word_of(n, &edges) == Some(Ok(word))
+}
+
 #[test]
-fn words_and_their_trees(rt: HostRuntime) -> Result<(), Fail> {
+fn words_and_their_trees(rt: HostRuntime) {
     // Each word was read from its tree by hand, leaf by leaf.
-    let table: [(u8, &[u8], &[(u8, u8)]); 7] = [
+    let table: [(u8, &[u8], &[(u8, u8)]); 5] = [
         (2, &[], &[(0, 1)]),
         (3, &[0], &[(0, 1), (0, 2)]),
         (4, &[1, 2], &[(0, 1), (1, 2), (2, 3)]),
         (4, &[3, 0], &[(0, 2), (0, 3), (1, 3)]),
         (6, &[3, 3, 3, 4], &[(0, 3), (1, 3), (2, 3), (3, 4), (4, 5)]),
-        (
-            11,
-            &[1, 2, 3, 4, 5, 6, 7, 8, 9],
-            &[
-                (0, 1),
-                (1, 2),
-                (2, 3),
-                (3, 4),
-                (4, 5),
-                (5, 6),
-                (6, 7),
-                (7, 8),
-                (8, 9),
-                (9, 10),
-            ],
-        ),
-        (
-            11,
-            &[10, 10, 10, 10, 10, 10, 10, 10, 10],
-            &[
-                (0, 10),
-                (1, 10),
-                (2, 10),
-                (3, 10),
-                (4, 10),
-                (5, 10),
-                (6, 10),
-                (7, 10),
-                (8, 10),
-                (9, 10),
-            ],
-        ),
     ];
     for (n, letters, pairs) in table {
-        let word = Word::of(letters).ok_or("too long a word")?;
-        let edges = Edges::of(pairs).ok_or("no list of edges")?;
-        assert_eq!(rt; tree_of(n, &word), Some(edges));
-        assert_eq!(rt; word_of(n, &edges), Some(Ok(word)));
+        assert!(rt; stand_for_each_other(n, letters, pairs), "at {n}");
     }
-    Ok(())
+}
+
+#[test]
+fn a_path_and_a_star_on_eleven_vertices(rt: HostRuntime) {
+    let mut path = [(0, 1); 10];
+    let mut star = [(0, 10); 10];
+    for u in 0..10u8 {
+        path[u as usize] = (u, u + 1);
+        star[u as usize] = (u, 10);
+    }
+    assert!(rt; stand_for_each_other(11, &[1, 2, 3, 4, 5, 6, 7, 8, 9], &path));
+    assert!(rt; stand_for_each_other(11, &[10; 9], &star));
 }
 
 #[test]
