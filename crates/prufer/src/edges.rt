@@ -50,14 +50,14 @@ impl Edges {
         ensures limited { result ≤ MOST_EDGES }
         ensures form { IsTrue (is_edge_list self.now) }
     {
-        self.pairs.as_slice().len()
+        self.as_slice().len()
     }
 
     /// Whether there is no edge.
     pub fn is_empty(&self) -> bool
         ensures { IsTrue result ↔ (self.now ≡ []) }
     {
-        self.pairs.as_slice().is_empty()
+        self.as_slice().is_empty()
     }
 
     /// The edge at a place, counted from 0, with its smaller end first.
@@ -66,7 +66,15 @@ impl Edges {
         ensures value { slice_get self.now place ≡ Some result }
         ensures upward { result.0 < result.1 }
     {
-        self.pairs.as_slice()[place]
+        self.as_slice()[place]
+    }
+
+    /// The edges.
+    pub fn as_slice(&self) -> &[(u8, u8)]
+        ensures value { result.now ≡ self.now }
+        ensures form { IsTrue (is_edge_list self.now) }
+    {
+        self.pairs.as_slice()
     }
 
     /// The edges of a list that has the form.

@@ -118,12 +118,17 @@ fn places_of_words_and_edges(rt: HostRuntime) -> Result<(), Fail> {
     let word = Word::of(&[3, 3, 3, 4]).ok_or("too long a word")?;
     assert_eq!(rt; word.len(), 4);
     assert_eq!(rt; word.letter(3), 4);
+    assert_eq!(rt; word.as_slice(), [3, 3, 3, 4].as_slice());
     assert!(rt; !word.is_empty());
     assert!(rt; Word::of(&[7; 9]).is_some());
     assert!(rt; Word::of(&[7; 10]).is_none());
     let edges = decode(6, &word);
     assert_eq!(rt; edges.len(), 5);
     assert_eq!(rt; edges.pair(3), (3, 4));
+    assert_eq!(rt;
+        edges.as_slice(),
+        [(0, 3), (1, 3), (2, 3), (3, 4), (4, 5)].as_slice()
+    );
     assert!(rt; !edges.is_empty());
     Ok(())
 }

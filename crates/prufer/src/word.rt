@@ -73,7 +73,7 @@ impl Word {
     }
 
     /// The letters.
-    pub(crate) fn as_slice(&self) -> &[u8]
+    pub fn as_slice(&self) -> &[u8]
         ensures value { result.now ≡ self.now }
         ensures limited { length self.now ≤ 9 }
     {
