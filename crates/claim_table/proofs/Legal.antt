@@ -73,7 +73,7 @@ pub owner_after-one : (b o : ℕ) (rs : List Record) (r : Record) → owner_afte
 owner_after-one b o [] r = refl
 owner_after-one b o (s ∷ rs) r = owner_after-one b (given (times b s.taken) s.worker o) rs r
 
-up_to_reports : (x : ℕ) (rs : List Record) → up_to x (all_reported rs) ≡ total (reported_up_to x) rs
+pub up_to_reports : (x : ℕ) (rs : List Record) → up_to x (all_reported rs) ≡ total (reported_up_to x) rs
 up_to_reports x [] = refl
 up_to_reports x (r ∷ rs) = let a = up_to_reports x rs in let b = up_to-append x r.reported (all_reported rs) in omega arith
 

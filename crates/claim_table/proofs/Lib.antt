@@ -1,5 +1,6 @@
 pub mod Lists
-pub mod Views
 pub mod Legal
+pub mod Counted
+pub mod Views
 pub mod Moves
 pub mod Settled

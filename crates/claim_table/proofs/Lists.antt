@@ -75,11 +75,11 @@ pub least_most : (xs : List ℕ) → least_of xs ≤ 18446744073709551615
 least_most [] = omega arith
 least_most (x ∷ xs) = let a = least_most xs in omega arith
 
-none_less_than_least : (x : ℕ) (xs : List ℕ) → x < least_of xs → up_to x xs ≡ 0
+pub none_less_than_least : (x : ℕ) (xs : List ℕ) → x < least_of xs → up_to x xs ≡ 0
 none_less_than_least x [] h = refl
 none_less_than_least x (y ∷ ys) h = let a = none_less_than_least x ys (omega arith) in let b = bit_not_le y x (omega arith) in omega arith
 
-least_there : (x : ℕ) (xs : List ℕ) → least_of xs ≤ x → x < 18446744073709551615 → 0 < up_to x xs
+pub least_there : (x : ℕ) (xs : List ℕ) → least_of xs ≤ x → x < 18446744073709551615 → 0 < up_to x xs
 least_there x [] h lt = absurd (omega arith)
 least_there x (y ∷ ys) h lt = dite (dec_lt x y) (λ less. let a = least_there x ys (omega arith) lt in omega arith) (λ more. let b = bit_le y x (omega arith) in omega arith)
 
@@ -140,7 +140,7 @@ some_item [] h = absurd (omega arith)
 some_item (x ∷ xs) h = x
 
 -- within a list the default does not count
-get_or_within : {A : Type 0} (xs : List A) (k : ℕ) (d e : A) → k < length xs → get_or xs k d ≡ get_or xs k e
+pub get_or_within : {A : Type 0} (xs : List A) (k : ℕ) (d e : A) → k < length xs → get_or xs k d ≡ get_or xs k e
 get_or_within [] k d e lt = absurd (omega arith)
 get_or_within (x ∷ xs) zero d e lt = refl
 get_or_within (x ∷ xs) (suc k) d e lt = get_or_within xs k d e (omega arith)
@@ -149,6 +149,11 @@ get_or_within (x ∷ xs) (suc k) d e lt = get_or_within xs k d e (omega arith)
 pub all_at_most : (n : ℕ) (xs : List ℕ) → ((x : ℕ) → x < n → up_to x xs ≡ 0) → All (λ x. n ≤ x) xs
 all_at_most n xs none k d lt = let x : ℕ = get_or xs k d in let same : get_or xs k 0 ≡ get_or xs k d = get_or_within xs k 0 d lt in
     let there = stands xs k lt in let p = times_le_up_to (get_or xs k 0) xs in at_least (λ less. let q = none (get_or xs k 0) (omega arith) in omega arith)
+
+-- no number of the list is below n, so none is at most a lesser one
+pub none_up_to : (n x : ℕ) (xs : List ℕ) → x < n → All (λ number. n ≤ number) xs → up_to x xs ≡ 0
+none_up_to n x [] less h = refl
+none_up_to n x (y ∷ ys) less h = let a = h 0 y (omega arith) in let b = bit_not_le y x (omega arith) in let c = none_up_to n x ys less (λ k d lt. h (suc k) d (omega arith)) in omega arith
 
 -- what holds of each place of a list holds of each number that stands in it
 pub each_of_all : (n : ℕ) (xs : List ℕ) → All (λ x. n ≤ x) xs → (x : ℕ) → 0 < times x xs → n ≤ x
@@ -176,7 +181,7 @@ pub sum_below_none : (n : ℕ) (f : ℕ → ℕ) → ((b : ℕ) → b < n → f 
 sum_below_none zero f e = refl
 sum_below_none (suc n) f e = let a = sum_below_none n f (λ b lt. e b (omega arith)) in let c = e n (omega arith) in omega arith
 
-sum_below_at : (n x : ℕ) (f : ℕ → ℕ) → x < n → sum_below n (λ b. bit (eqb x b) * f b) ≡ f x
+pub sum_below_at : (n x : ℕ) (f : ℕ → ℕ) → x < n → sum_below n (λ b. bit (eqb x b) * f b) ≡ f x
 sum_below_at zero x f lt = absurd (omega arith)
 sum_below_at (suc n) x f lt = dite (ℕ_discrete x n)
     (λ is. let one_here = bit_eq x n is in let here : bit (eqb x n) * f n ≡ f n = rw one_here (omega arith) in let same = ap f is in

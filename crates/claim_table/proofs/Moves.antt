@@ -6,7 +6,7 @@ use Rattle.std.proofs.Math.Nat.{mod-eq_of_lt}
 use Rattle.std.proofs.lemmas.Bool.Decides.{nat_tests}
 use mathlib.Core.Option.{some, none}
 use native.Mathlib.Decide.{dec_lt, dec_le}
-use Rattle.atomic_table.specs.Table.{Me, step, keeps, opening, Allows, Splits, Joins}
+use Rattle.atomic_table.specs.Table.{Me, step, keeps, opening, Allows, Splits, Joins, Enters}
 use lib.ListN.{get_elem?}
 use Rattle.atomic_table.proofs.Lists.{at_set}
 use Rattle.claim_table.specs.declared.claimer.Plan.{Plan}
@@ -14,9 +14,10 @@ use Rattle.claim_table.specs.declared.claimer.Record.{Record}
 use Rattle.claim_table.specs.declared.cursor.View.{View}
 use Rattle.claim_table.specs.Counts.{bit, total}
 use Rattle.claim_table.specs.Claims.{fresh, with_taken, made_dry, with_reported, with_seen, one, is_of, taken_count, dry_count, takes_of, reported_up_to, seen_up_to}
-use Rattle.claim_table.specs.Cursor.{over, stranger, cursor, bad, IsClaimed, only, with_only, after_take, Holds, Takes, Reports, Sees, rest_of, dealt_left, dealt_right, joined, spent, fresh_from, opening_view}
+use Rattle.claim_table.specs.Cursor.{cursor, bad, only, with_only, after_take, Holds, Takes, Reports, Sees, NewSeat, view, rest_of, dealt_left, dealt_right, joined, spent, fresh_from, opening_view}
+use Rattle.claim_table.proofs.Counted.{over, stranger, IsCounted, counted, claimed}
 use Rattle.claim_table.proofs.Lists.{total-set, at_most_total, total_le, times-append, up_to-append, total-append, bit_le, bit_not_le}
-use Rattle.claim_table.proofs.Views.{over_only, over_at, total_dealt, total_joined, total_first}
+use Rattle.claim_table.proofs.Views.{over_only, over_at, total_dealt, total_joined, total_first, total_nothing}
 
 dry_at_most_one : (r : Record) → dry_count r ≤ one r
 dry_at_most_one r = grind (arith, nat_tests)
@@ -25,7 +26,7 @@ total_views_le : (f g : Record → ℕ) (views : List View) → ((r : Record) �
 total_views_le f g views h = total_le (λ (v : View). total f v.records) (λ (v : View). total g v.records) views (λ v. total_le f g v.records h)
 
 -- no more workers are dry than there are
-pub dry_le : (p : Plan) (words : List ℕ) (views : List View) → IsClaimed p words views → over dry_count views ≤ 64
+pub dry_le : (p : Plan) (words : List ℕ) (views : List View) → IsCounted p words views → over dry_count views ≤ 64
 dry_le p words views h = let a = total_views_le dry_count one views dry_at_most_one in let b = h.records in let c = h.limits in omega arith
 
 strange_one : (blocks : ℕ) (v : View) → length v.records ≡ 1 → stranger blocks v ≡ cond (eqb v.blocks blocks) 0 1
@@ -35,7 +36,7 @@ not_other : (a b : ℕ) → cond {A = ℕ} (eqb a b) 0 1 ≡ 0 → a ≡ b
 not_other a b e = grind (arith, nat_tests)
 
 -- a seat with a record knows the number of blocks
-pub knows_blocks : (p : Plan) (words : List ℕ) (views : List View) (id : ℕ) (v : View) → IsClaimed p words views → length v.records ≡ 1 → get_elem? views id ≡ some v → v.blocks ≡ p.blocks
+pub knows_blocks : (p : Plan) (words : List ℕ) (views : List View) (id : ℕ) (v : View) → IsCounted p words views → length v.records ≡ 1 → get_elem? views id ≡ some v → v.blocks ≡ p.blocks
 knows_blocks p words views id v h e at = let a : stranger p.blocks v ≤ total (stranger p.blocks) views = at_most_total (stranger p.blocks) views id v at in let b = h.of_round in
     let c = strange_one p.blocks v e in not_other v.blocks p.blocks (omega arith)
 
@@ -49,8 +50,8 @@ one_more n m b h = grind (arith, nat_tests)
 none_more : (n m b : ℕ) → m ≤ n → bit (ltb b (min (n + 1) m)) ≡ bit (ltb b (min n m))
 none_more n m b h = let e : min (n + 1) m ≡ min n m = omega arith in ap (λ k. bit (ltb b k)) e
 
-pub takes_one : (p : Plan) (words : List ℕ) (views : List View) (id : ℕ) (v : View) → IsClaimed p words views → length v.records ≡ 1 → get_elem? views id ≡ some v → cursor words < p.blocks
-    → IsClaimed p (set words 0 (cursor words + 1)) (set views id (with_only v (with_taken (only v) (cursor words))))
+pub takes_one : (p : Plan) (words : List ℕ) (views : List View) (id : ℕ) (v : View) → IsCounted p words views → length v.records ≡ 1 → get_elem? views id ≡ some v → cursor words < p.blocks
+    → IsCounted p (set words 0 (cursor words + 1)) (set views id (with_only v (with_taken (only v) (cursor words))))
 takes_one p words views id v h e at lt = let n : ℕ = cursor words in let r : Record = with_taken (only v) n in let ws : List ℕ = set words 0 (n + 1) in
     let two : length words ≡ 2 = h.two_words in
     let c : cursor ws ≡ n + 1 = get_or-set_same words 0 (n + 1) 0 (omega arith) in
@@ -68,7 +69,6 @@ takes_one p words views id v h e at lt = let n : ℕ = cursor words in let r : R
           rw c (omega arith));
       takes = rw c (omega arith);
       counts = rw c (omega arith);
-      all_taken = (λ some_dry. omega arith);
       most = rw b h.most;
       some_reported = (λ x less le. let k = move (reported_up_to x) in let o = h.some_reported x less (rw (← b) le) in omega arith);
       none_less = (λ x less. let k = move (reported_up_to x) in let o = h.none_less x (rw (← b) less) in omega arith);
@@ -77,8 +77,8 @@ takes_one p words views id v h e at lt = let n : ℕ = cursor words in let r : R
     }
 
 -- a seat that is not dry and finds no block is dry from then on
-pub takes_none : (p : Plan) (words : List ℕ) (views : List View) (id : ℕ) (v : View) → IsClaimed p words views → length v.records ≡ 1 → get_elem? views id ≡ some v → (only v).dry ≡ false → p.blocks ≤ cursor words
-    → IsClaimed p (set words 0 (cursor words + 1)) (set views id (with_only v (made_dry (only v))))
+pub takes_none : (p : Plan) (words : List ℕ) (views : List View) (id : ℕ) (v : View) → IsCounted p words views → length v.records ≡ 1 → get_elem? views id ≡ some v → (only v).dry ≡ false → p.blocks ≤ cursor words
+    → IsCounted p (set words 0 (cursor words + 1)) (set views id (with_only v (made_dry (only v))))
 takes_none p words views id v h e at wet le = let n : ℕ = cursor words in let r : Record = made_dry (only v) in let ws : List ℕ = set words 0 (n + 1) in
     let two : length words ≡ 2 = h.two_words in
     let c : cursor ws ≡ n + 1 = get_or-set_same words 0 (n + 1) 0 (omega arith) in
@@ -94,7 +94,6 @@ takes_none p words views id v h e at wet le = let n : ℕ = cursor words in let 
       each_once = (λ x. let k = move (takes_of x) in let o = h.each_once x in let s = none_more n p.blocks x le in rw c (omega arith));
       takes = rw c (omega arith);
       counts = rw c (omega arith);
-      all_taken = (λ some_dry. omega arith);
       most = rw b h.most;
       some_reported = (λ x less le. let k = move (reported_up_to x) in let o = h.some_reported x less (rw (← b) le) in omega arith);
       none_less = (λ x less. let k = move (reported_up_to x) in let o = h.none_less x (rw (← b) less) in omega arith);
@@ -105,21 +104,21 @@ takes_none p words views id v h e at wet le = let n : ℕ = cursor words in let 
 not_below : (n m : ℕ) → bit (ltb n (min n m)) ≡ 0
 not_below n m = grind (arith, nat_tests)
 
-fits_word : (p : Plan) (words : List ℕ) (views : List View) → IsClaimed p words views → (cursor words + 1) % 2 ^ 64 ≡ cursor words + 1
+fits_word : (p : Plan) (words : List ℕ) (views : List View) → IsCounted p words views → (cursor words + 1) % 2 ^ 64 ≡ cursor words + 1
 fits_word p words views h = let d = dry_le p words views h in let a = h.limits in let b = h.takes in let c = h.counts in mod-eq_of_lt (omega arith)
 
-find : (p : Plan) (words : List ℕ) (views : List View) (id : ℕ) (v : View) → IsClaimed p words views → length v.records ≡ 1 → get_elem? views id ≡ some v → (only v).dry ≡ false → Dec (cursor words < v.blocks)
-    → IsClaimed p (set words 0 ((cursor words + 1) % 2 ^ 64)) (set views id (with_only v (after_take v (cursor words))))
+find : (p : Plan) (words : List ℕ) (views : List View) (id : ℕ) (v : View) → IsCounted p words views → length v.records ≡ 1 → get_elem? views id ≡ some v → (only v).dry ≡ false → Dec (cursor words < v.blocks)
+    → IsCounted p (set words 0 ((cursor words + 1) % 2 ^ 64)) (set views id (with_only v (after_take v (cursor words))))
 find p words views id v h e at wet (yes lt) = let k = knows_blocks p words views id v h e at in rw (fits_word p words views h, lt-ltb _ _ lt) (takes_one p words views id v h e at (omega arith))
 find p words views id v h e at wet (no nlt) = let k = knows_blocks p words views id v h e at in rw (fits_word p words views h, le-ltb (cursor words) v.blocks (omega arith)) (takes_none p words views id v h e at wet (omega arith))
 
 pub takes : (S : Type 0) (p : Plan) (slots id : ℕ) (me : Me S View) → length me.0.records ≡ 1 → (only me.0).dry ≡ false
     → Allows (Holds {S = S} p) slots id me 0 (λ n. (n + 1) % 2 ^ 64) (Takes (step slots 0 1 0 none) me)
-takes S p slots id me e wet s h homes at fits = let v : View = me.0 in let n : ℕ = cursor s.words in let t = h.takes in (
+takes S p slots id me e wet s kept homes at fits = let h = counted p s.words s.views kept in let v : View = me.0 in let n : ℕ = cursor s.words in let t = h.takes in (
   with_only v (after_take v n),
   keeps,
   tt,
-  find p s.words s.views id v h e at wet (dec_lt n v.blocks),
+  claimed p _ _ (find p s.words s.views id v h e at wet (dec_lt n v.blocks)),
   (
     refl,
     (let a = over_at taken_count s.views id v e at in omega arith),
@@ -132,8 +131,8 @@ some_up_to : (k x bad : ℕ) (was : ℕ) (now : ℕ) → now ≡ was + (bit (leb
 some_up_to k x bad was now e h le (yes d) = let b = bit_le k x d in omega arith
 some_up_to k x bad was now e h le (no d) = let b : bad ≤ x = omega arith in let c = h b in omega arith
 
-pub reports_one : (p : Plan) (words : List ℕ) (views : List View) (id : ℕ) (v : View) (k : ℕ) → IsClaimed p words views → length v.records ≡ 1 → get_elem? views id ≡ some v
-    → IsClaimed p (set words 1 (min (bad words) k)) (set views id (with_only v (with_reported (only v) k)))
+pub reports_one : (p : Plan) (words : List ℕ) (views : List View) (id : ℕ) (v : View) (k : ℕ) → IsCounted p words views → length v.records ≡ 1 → get_elem? views id ≡ some v
+    → IsCounted p (set words 1 (min (bad words) k)) (set views id (with_only v (with_reported (only v) k)))
 reports_one p words views id v k h e at = let n : ℕ = min (bad words) k in let r : Record = with_reported (only v) k in let ws : List ℕ = set words 1 n in
     let two : length words ≡ 2 = h.two_words in
     let b : bad ws ≡ n = get_or-set_same words 1 n 0 (omega arith) in
@@ -148,7 +147,6 @@ reports_one p words views id v k h e at = let n : ℕ = min (bad words) k in let
       each_once = (λ x. let k = move (takes_of x) in let o = h.each_once x in rw c (omega arith));
       takes = rw c (omega arith);
       counts = rw c (omega arith);
-      all_taken = (λ some_dry. omega arith);
       most = rw b (omega arith);
       some_reported = (λ x less le. let m = move (reported_up_to x) in let a = up_to-append x (only v).reported (k ∷ []) in
           some_up_to k x (bad words) (over (reported_up_to x) views) (over (reported_up_to x) (set views id (with_only v r))) (omega arith) (h.some_reported x less) (rw b at le) (dec_le k x));
@@ -159,16 +157,16 @@ reports_one p words views id v k h e at = let n : ℕ = min (bad words) k in let
 
 pub reports : (S : Type 0) (p : Plan) (slots id : ℕ) (me : Me S View) (k : ℕ) → length me.0.records ≡ 1
     → Allows (Holds {S = S} p) slots id me 1 (λ n. min n k) (Reports (step slots 1 k 0 none) me)
-reports S p slots id me k e s h homes at fits = (
+reports S p slots id me k e s kept homes at fits = (
   with_only me.0 (with_reported (only me.0) k),
   keeps,
   tt,
-  reports_one p s.words s.views id me.0 k h e at,
+  claimed p _ _ (reports_one p s.words s.views id me.0 k (counted p s.words s.views kept) e at),
   refl,
 )
 
-pub sees_one : (p : Plan) (words : List ℕ) (views : List View) (id : ℕ) (v : View) → IsClaimed p words views → length v.records ≡ 1 → get_elem? views id ≡ some v
-    → IsClaimed p (set words 1 (bad words)) (set views id (with_only v (with_seen (only v) (bad words))))
+pub sees_one : (p : Plan) (words : List ℕ) (views : List View) (id : ℕ) (v : View) → IsCounted p words views → length v.records ≡ 1 → get_elem? views id ≡ some v
+    → IsCounted p (set words 1 (bad words)) (set views id (with_only v (with_seen (only v) (bad words))))
 sees_one p words views id v h e at = let n : ℕ = bad words in let r : Record = with_seen (only v) n in let ws : List ℕ = set words 1 n in
     let two : length words ≡ 2 = h.two_words in
     let b : bad ws ≡ n = get_or-set_same words 1 n 0 (omega arith) in
@@ -183,7 +181,6 @@ sees_one p words views id v h e at = let n : ℕ = bad words in let r : Record =
       each_once = (λ x. let k = move (takes_of x) in let o = h.each_once x in rw c (omega arith));
       takes = rw c (omega arith);
       counts = rw c (omega arith);
-      all_taken = (λ some_dry. omega arith);
       most = rw b h.most;
       some_reported = (λ x less le. let m = move (reported_up_to x) in let o = h.some_reported x less (rw b at le) in omega arith);
       none_less = (λ x less. let m = move (reported_up_to x) in let less' : x < n = rw b at less in let o = h.none_less x less' in omega arith);
@@ -193,11 +190,11 @@ sees_one p words views id v h e at = let n : ℕ = bad words in let r : Record =
 
 pub sees : (S : Type 0) (p : Plan) (slots id : ℕ) (me : Me S View) → length me.0.records ≡ 1
     → Allows (Holds {S = S} p) slots id me 1 (λ n. n) (Sees (step slots 1 0 0 none) me)
-sees S p slots id me e s h homes at fits = (
+sees S p slots id me e s kept homes at fits = let h = counted p s.words s.views kept in (
   with_only me.0 (with_seen (only me.0) (bad s.words)),
   keeps,
   tt,
-  sees_one p s.words s.views id me.0 h e at,
+  claimed p _ _ (sees_one p s.words s.views id me.0 h e at),
   (refl, λ x less. let a = over_at (reported_up_to x) s.views id me.0 e at in let o = h.none_less x less in omega arith),
 )
 
@@ -210,7 +207,7 @@ stranger_sum true m n k e = omega arith
 stranger_sum false m n k e = e
 
 -- the rule looks at totals alone
-same_totals : (p : Plan) (words : List ℕ) (views now : List View) → IsClaimed p words views → ((g : Record → ℕ) → over g now ≡ over g views) → total (stranger p.blocks) now ≡ total (stranger p.blocks) views → IsClaimed p words now
+same_totals : (p : Plan) (words : List ℕ) (views now : List View) → IsCounted p words views → ((g : Record → ℕ) → over g now ≡ over g views) → total (stranger p.blocks) now ≡ total (stranger p.blocks) views → IsCounted p words now
 same_totals p words views now h e s = record {
   limits = h.limits;
   two_words = h.two_words;
@@ -219,7 +216,6 @@ same_totals p words views now h e s = record {
   each_once = (λ b. e (takes_of b) ∙ h.each_once b);
   takes = e taken_count ∙ h.takes;
   counts = (let a = e taken_count in let b = e dry_count in let c = h.counts in omega arith);
-  all_taken = (λ some_dry. let a = e taken_count in let b = e dry_count in let c = h.all_taken (omega arith) in omega arith);
   most = h.most;
   some_reported = (λ x less le. let a = e (reported_up_to x) in let b = h.some_reported x less le in omega arith);
   none_less = (λ x less. e (reported_up_to x) ∙ h.none_less x less);
@@ -228,9 +224,9 @@ same_totals p words views now h e s = record {
 }
 
 pub deals : (S : Type 0) (p : Plan) (id : ℕ) (v : View) → 0 < length v.records → Splits (Holds {S = S} p) id v (dealt_left v) (dealt_right v)
-deals S p id v some_there s h at = same_totals p s.words s.views (set s.views id (dealt_left v) ++ dealt_right v ∷ []) h
+deals S p id v some_there s kept at = let h = counted p s.words s.views kept in claimed p _ _ (same_totals p s.words s.views (set s.views id (dealt_left v) ++ dealt_right v ∷ []) h
     (λ g. total_dealt (λ (w : View). total g w.records) s.views id v (dealt_left v) (dealt_right v) at (total_first g v.records some_there))
-    (total_dealt (stranger p.blocks) s.views id v (dealt_left v) (dealt_right v) at (stranger_sum (eqb v.blocks p.blocks) (length v.records) (length (rest_of v.records)) 1 (rest_fewer v.records some_there)))
+    (total_dealt (stranger p.blocks) s.views id v (dealt_left v) (dealt_right v) at (stranger_sum (eqb v.blocks p.blocks) (length v.records) (length (rest_of v.records)) 1 (rest_fewer v.records some_there))))
 
 cond_same : (b : Bool) → cond {A = ℕ} b 0 0 ≡ 0
 cond_same true = refl
@@ -239,16 +235,26 @@ cond_same false = refl
 no_strangers : (b : Bool) (m n : ℕ) → b ≡ true → cond {A = ℕ} b 0 m ≡ 0
 no_strangers b m n e = rw e refl
 
-pub joins : (S : Type 0) (p : Plan) (id : ℕ) (v : View) (other : ℕ) (w : View) → v.blocks ≡ p.blocks → length w.records ≡ 1 → Joins (Holds {S = S} p) id v other w (joined v w) spent
-joins S p id v other w k e s h at apart at' =
+pub joins : (S : Type 0) (p : Plan) (id : ℕ) (v : View) (other : ℕ) (w : View) → length w.records ≡ 1 → Joins (Holds {S = S} p) id v other w (joined v w) spent
+joins S p id v other w e s kept at apart at' = let h = counted p s.words s.views kept in
     let was : get_elem? s.views other ≡ some w = ⊎_elim (λ x. absurd (apart x.0)) (λ x. x.1) (at_set s.views id other (joined v w) w at') in
+    let k : w.blocks ≡ p.blocks = knows_blocks p s.words s.views other w h e was in
     let none_v : stranger p.blocks v ≡ 0 = (let a = at_most_total (stranger p.blocks) s.views id v at in let b = h.of_round in omega arith) in
     let none_w : stranger p.blocks w ≡ 0 = (let a = at_most_total (stranger p.blocks) s.views other w was in let b = h.of_round in omega arith) in
-    let none_both : stranger p.blocks (joined v w) ≡ 0 = no_strangers (eqb v.blocks p.blocks) (length (v.records ++ w.records)) 0 (eq-eqb v.blocks p.blocks k) in
+    let none_both : stranger p.blocks (joined v w) ≡ 0 = no_strangers (eqb w.blocks p.blocks) (length (v.records ++ w.records)) 0 (eq-eqb w.blocks p.blocks k) in
     let none_spent : stranger p.blocks spent ≡ 0 = cond_same (eqb 0 p.blocks) in
-    same_totals p s.words s.views (set (set s.views id (joined v w)) other spent) h
+    claimed p _ _ (same_totals p s.words s.views (set (set s.views id (joined v w)) other spent) h
     (λ g. total_joined (λ (u : View). total g u.records) s.views id other v w (joined v w) spent at at' (let a = total-append g v.records w.records in omega arith))
-    (total_joined (stranger p.blocks) s.views id other v w (joined v w) spent at at' (omega arith))
+    (total_joined (stranger p.blocks) s.views id other v w (joined v w) spent at at' (omega arith)))
+
+pub enters : (S : Type 0) (p : Plan) (slots : ℕ) (me : Me S View) → Enters (Holds {S = S} p) slots 0 (λ n w. NewSeat (step slots 0 0 0 none) me n (w, []))
+enters S p slots me s kept homes fits = let h = counted p s.words s.views kept in (
+  view 0 [],
+  claimed p _ _ (same_totals p s.words s.views (s.views ++ view 0 [] ∷ []) h
+      (λ g. total_nothing s.views (λ (u : View). total g u.records) (view 0 []) refl)
+      (total_nothing s.views (stranger p.blocks) (view 0 []) (cond_same (eqb 0 p.blocks)))),
+  refl,
+)
 
 -- the records of the start
 one_of_fresh : (k n : ℕ) → total one (fresh_from k n) ≡ n
@@ -275,7 +281,7 @@ from_zero w n = grind (arith, nat_tests)
 none_below : (m b : ℕ) → 0 ≡ bit (ltb b (min 0 m))
 none_below m b = grind (arith, nat_tests)
 
-opens_with : (p : Plan) → (p.blocks ≤ 1024) × (p.workers ≤ 64) → IsClaimed p (0 ∷ 18446744073709551615 ∷ []) (opening_view p ∷ [])
+opens_with : (p : Plan) → (p.blocks ≤ 1024) × (p.workers ≤ 64) → IsCounted p (0 ∷ 18446744073709551615 ∷ []) (opening_view p ∷ [])
 opens_with p limits = let nothing = λ (g : Record → ℕ) (h : (j : ℕ) → g (fresh j) ≡ 0). none_of_fresh g 0 p.workers h in
     let t : total taken_count (fresh_from 0 p.workers) ≡ 0 = nothing taken_count (λ j. refl) in let d : total dry_count (fresh_from 0 p.workers) ≡ 0 = nothing dry_count (λ j. refl) in record {
       limits = limits;
@@ -285,7 +291,6 @@ opens_with p limits = let nothing = λ (g : Record → ℕ) (h : (j : ℕ) → g
       each_once = (λ x. let a = nothing (takes_of x) (λ j. refl) in let b = none_below p.blocks x in omega arith);
       takes = omega arith;
       counts = omega arith;
-      all_taken = (λ some_dry. absurd (omega arith));
       most = omega arith;
       some_reported = (λ x less le. absurd (omega arith));
       none_less = (λ x less. let a = nothing (reported_up_to x) (λ j. refl) in omega arith);
@@ -294,4 +299,4 @@ opens_with p limits = let nothing = λ (g : Record → ℕ) (h : (j : ℕ) → g
     }
 
 pub opens : (S : Type 0) (p : Plan) → (p.blocks ≤ 1024) × (p.workers ≤ 64) → Holds {S = S} p (opening (0 ∷ 18446744073709551615 ∷ []) [] (opening_view p))
-opens S p limits = opens_with p limits
+opens S p limits = claimed p _ _ (opens_with p limits)

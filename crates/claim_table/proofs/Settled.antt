@@ -8,13 +8,17 @@ use Rattle.claim_table.specs.declared.claimer.Record.{Record}
 use Rattle.claim_table.specs.declared.cursor.View.{View}
 use Rattle.claim_table.specs.Counts.{total, once_below, least_of}
 use Rattle.claim_table.specs.Claims.{one, dry_count, takes_of, reported_up_to, seen_up_to, all_reported}
-use Rattle.claim_table.specs.Cursor.{over, cursor, bad, IsClaimed}
+use Rattle.claim_table.specs.Cursor.{cursor, bad, IsClaimed}
+use Rattle.claim_table.proofs.Counted.{over, IsCounted, counted}
 use Rattle.claim_table.proofs.Lists.{all_at, all_at_most, at_most_or, get_or-map, length-map_is, some_item}
 use Rattle.claim_table.proofs.Legal.{ones, nothing_of_none, all_dry, least_reported}
 
 -- One view has the records of all seats.
-module _ {A : Type 0} (done : A → Record) (seats : List A) (p : Plan) (words : List ℕ) (views : List View) (id : ℕ) (v : View) (h : IsClaimed p words views) (at : get_elem? views id ≡ some v)
+module _ {A : Type 0} (done : A → Record) (seats : List A) (p : Plan) (words : List ℕ) (views : List View) (id : ℕ) (v : View) (kept : IsClaimed p words views) (at : get_elem? views id ≡ some v)
     (e : v.records ≡ map done seats) (all : length seats ≡ p.workers) where
+  h : IsCounted p words views
+  h = counted p words views kept
+
   as_many : length v.records ≡ p.workers
   as_many = ap length e ∙ length-map_is done seats ∙ all
 
@@ -31,7 +35,7 @@ module _ {A : Type 0} (done : A → Record) (seats : List A) (p : Plan) (words :
   once_dry some_worker dry b = let n = length-map_is done seats in
       let dries : total dry_count (map done seats) ≡ length (map done seats) = all_dry (map done seats) (λ j r less. ap (λ (s : Record). s.dry) (get_or-map done seats j (some_of j less) r (omega arith)) ∙ dry j (some_of j less) (omega arith)) in
       let same : total dry_count v.records ≡ total dry_count (map done seats) = ap (total dry_count) e in
-      let d = gathered dry_count in let t = h.all_taken (omega arith) in let m = h.takes in let q : min (cursor words) p.blocks ≡ p.blocks = omega arith in
+      let d = gathered dry_count in let c = h.counts in let m = h.takes in let q : min (cursor words) p.blocks ≡ p.blocks = omega arith in
       ap (total (takes_of b)) (sym e) ∙ sym (gathered (takes_of b)) ∙ h.each_once b ∙ ap (λ k. once_below k b) q
 
   pub least_close : bad words ≡ least_of (all_reported (map done seats))

@@ -6,7 +6,8 @@ use Rattle.claim_table.specs.declared.claimer.Record.{Record}
 use Rattle.claim_table.specs.declared.cursor.View.{View}
 use Rattle.claim_table.specs.Counts.{total}
 use Rattle.claim_table.specs.Claims.{fresh}
-use Rattle.claim_table.specs.Cursor.{over, only, first_of, rest_of, with_only, view, fresh_from, dealt_left, dealt_right}
+use Rattle.claim_table.specs.Cursor.{only, first_of, rest_of, with_only, view, fresh_from, dealt_left, dealt_right}
+use Rattle.claim_table.proofs.Counted.{over}
 use Rattle.claim_table.proofs.Lists.{total-set, total-append, at_most_total}
 
 pub total_one : (g : Record → ℕ) (rs : List Record) → length rs ≡ 1 → total g rs ≡ g (first_of rs)

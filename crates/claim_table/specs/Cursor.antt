@@ -1,49 +1,47 @@
 -- The rule of the claim cursor: word 0 is the cursor, and word 1 the least number that was reported bad.
-use Rattle.std.specs.Prelude.{◌≡◌, ℕ, zero, suc, ◌+◌, ◌<◌, ◌≤◌, ◌==◌, cond, List, [], ◌∷◌, ◌++◌, length, slice_index, min, nat_lt}
+use Rattle.std.specs.Prelude.{◌≡◌, ℕ, zero, suc, ◌+◌, ◌<◌, ◌≤◌, cond, List, [], ◌∷◌, ◌++◌, length, slice_index, min, nat_lt, All}
 use Rattle.atomic_table.specs.Table.{State, Me, Step}
 use Rattle.claim_table.specs.declared.claimer.Plan.{Plan}
 use Rattle.claim_table.specs.declared.claimer.Record.{Record}
 use Rattle.claim_table.specs.declared.cursor.View.{View}
-use Rattle.claim_table.specs.Counts.{times, up_to, total, once_below}
-use Rattle.claim_table.specs.Claims.{fresh, with_taken, made_dry, with_reported, with_seen, one, is_of, taken_count, dry_count, takes_of, reported_up_to, seen_up_to}
+use Rattle.claim_table.specs.Counts.{times, up_to, total, once_below, least_of}
+use Rattle.claim_table.specs.Claims.{fresh, with_taken, made_dry, with_reported, with_seen, is_of, taken_count, dry_count, takes_of, all_reported}
 
 -- what a seat knows: the number of blocks, and the records of the workers that it stands for
 abbrev pub view : ℕ → List Record → View
 view blocks records = record { blocks = blocks; records = records }
 
--- f of each record of each view, added up
-abbrev pub over : (Record → ℕ) → List View → ℕ
-over f views = total (λ (v : View). total f v.records) views
+-- the records of all views
+abbrev pub all_records : List View → List Record
+all_records [] = []
+all_records (v ∷ vs) = v.records ++ all_records vs
 
--- the number of records of a view with another number of blocks
-abbrev pub stranger : ℕ → View → ℕ
-stranger blocks v = cond (v.blocks == blocks) 0 (length v.records)
-
+-- word 0
 abbrev pub cursor : List ℕ → ℕ
 cursor words = slice_index words 0
 
+-- word 1
 abbrev pub bad : List ℕ → ℕ
 bad words = slice_index words 1
 
--- The cursor rule, over the two words and the records of all views:
--- each worker has one record; the taken lists together are the blocks below the cursor, each once;
--- the cursor is the number of taken blocks and dry records, and where a record is dry, all blocks are taken;
--- the bad word is the least number reported, or 2^64 - 1, and at most each number seen;
--- a view with a record knows the number of blocks.
+-- The cursor rule, over the two words and the records of all views. A view that was joined away has no record.
 pub record IsClaimed (p : Plan) (words : List ℕ) (views : List View) : Type 0 where
   pub limits : (p.blocks ≤ 1024) × (p.workers ≤ 64)
   pub two_words : length words ≡ 2
-  pub records : over one views ≡ p.workers
-  pub one_each : (worker : ℕ) → over (is_of worker) views ≡ once_below p.workers worker
-  pub each_once : (block : ℕ) → over (takes_of block) views ≡ once_below (min (cursor words) p.blocks) block
-  pub takes : over taken_count views ≡ min (cursor words) p.blocks
-  pub counts : cursor words ≡ over taken_count views + over dry_count views
-  pub all_taken : 0 < over dry_count views → over taken_count views ≡ p.blocks
-  pub most : bad words ≤ 18446744073709551615
-  pub some_reported : (x : ℕ) → x < 18446744073709551615 → bad words ≤ x → 0 < over (reported_up_to x) views
-  pub none_less : (x : ℕ) → x < bad words → over (reported_up_to x) views ≡ 0
-  pub none_seen : (x : ℕ) → x < bad words → over (seen_up_to x) views ≡ 0
-  pub of_round : total (stranger p.blocks) views ≡ 0
+  -- each worker has one record, and nobody else has one
+  pub one_each : (worker : ℕ) → total (is_of worker) (all_records views) ≡ once_below p.workers worker
+  pub workers : length (all_records views) ≡ p.workers
+  -- the taken lists together are the blocks below the cursor, each once
+  pub each_once : (block : ℕ) → total (takes_of block) (all_records views) ≡ once_below (min (cursor words) p.blocks) block
+  pub takes : total taken_count (all_records views) ≡ min (cursor words) p.blocks
+  -- the cursor counts the taken blocks and the dry records, and where a record is dry, all blocks are taken
+  pub counts : cursor words ≡ total taken_count (all_records views) + total dry_count (all_records views)
+  pub all_taken : 0 < total dry_count (all_records views) → total taken_count (all_records views) ≡ p.blocks
+  -- the bad word is the least number reported, or 2^64 - 1 where there is none, and at most each number seen
+  pub least : bad words ≡ least_of (all_reported (all_records views))
+  pub seen : All (λ r. All (λ number. bad words ≤ number) r.seens) (all_records views)
+  -- a view with a record has the number of blocks
+  pub of_round : All (λ v. 0 < length v.records → v.blocks ≡ p.blocks) views
 
 abbrev pub Holds : {S : Type 0} → Plan → State S View → Type 0
 Holds p s = IsClaimed p s.words s.views
@@ -80,6 +78,10 @@ Sees s me found after =
     (after ≡ (with_only me.0 (with_seen (only me.0) found), me.1))
     × ((x : ℕ) → x < found → up_to x (only me.0).reported ≡ 0)
 
+-- a new seat stands for no worker
+abbrev pub NewSeat : {S : Type 0} → Step S → Me S View → ℕ → Me S View → Type 0
+NewSeat s me found after = after ≡ (view 0 [], [])
+
 -- fresh records of n workers from k on
 abbrev pub fresh_from : ℕ → ℕ → List Record
 fresh_from k zero = []
@@ -101,7 +103,7 @@ dealt_right v = view v.blocks (only v ∷ [])
 
 -- a join moves the records of the second seat behind those of the first, and none is left
 abbrev pub joined : View → View → View
-joined v w = view v.blocks (v.records ++ w.records)
+joined v w = view w.blocks (v.records ++ w.records)
 
 abbrev pub spent : View
 spent = view 0 []

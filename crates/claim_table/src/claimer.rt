@@ -124,4 +124,7 @@ pub trait Claimer {
         ensures legal { IsLegal (plan_of board) result.owners (map (λ s. (record_of s).taken) seats.items) }
         ensures least { result.least_bad ≡ least_of (all_reported (map record_of seats.items)) }
         ensures seen { All (λ s. All (λ number. result.least_bad ≤ number) (record_of s).seens) seats.items };
+
+    // A board has at most 1,024 blocks.
+    ghost few_blocks: { (board : Self.Board) → (plan_of board).blocks ≤ 1024 };
 }

@@ -54,6 +54,14 @@ impl Play<(), View> for SeeLeast {
     ghost then = { Sees };
 }
 
+struct Enter;
+
+impl Play<(), View> for Enter {
+    ghost use Rattle.claim_table.specs.Cursor.{NewSeat};
+
+    ghost then = { NewSeat };
+}
+
 struct Deal;
 
 impl Split<View> for Deal {
@@ -81,17 +89,12 @@ impl Join<View> for Gather {
 #[derive(Drop)]
 pub struct Cursor {
     table: CursorTable,
-    dealer: Seat<(), View>,
     plan: Plan,
     owners: Owners,
     ghost limits: { (plan.blocks ≤ 1024) × (0 < plan.workers) × (plan.workers ≤ 64) },
     ghost planned: { table.shared.key ≡ plan },
     ghost words: { table.shared.table_id.words ≡ 2 },
     ghost no_slots: { table.shared.table_id.slots ≡ 0 },
-    ghost dealt: { dealer.table_id ≡ table.shared.table_id },
-    ghost dealt_blocks: { dealer.me.0.blocks ≡ plan.blocks },
-    ghost dealt_records: { length dealer.me.0.records ≡ 0 },
-    ghost dealt_slots: { length dealer.me.1 ≡ 0 },
     ghost owned: { length owners ≡ plan.blocks },
 }
 
@@ -149,7 +152,6 @@ impl Claimer for CursorSeat {
         }
         let board = Cursor {
             table,
-            dealer,
             plan,
             owners,
         };
@@ -201,7 +203,7 @@ impl Claimer for CursorSeat {
         board.table.shared.load::<SeeLeast>(&mut self.seat, 1)
     }
 
-    /// One join for each seat. The table's own clauses are those of the trait, for these types.
+    /// One load by a new seat, and one join for each seat. The table's own clauses are those of the trait, for these types.
     fn close(board: Cursor, seats: Vec<CursorSeat>) -> Closed
         requires all { length seats.items ≡ board.plan.workers }
         requires seated { All (λ s. IsSeatOf s board × Unit {0} × ((seat_record s).dry ≡ true)) seats.items }
@@ -212,10 +214,10 @@ impl Claimer for CursorSeat {
     {
         let Cursor {
             table,
-            dealer: mut all,
             plan: _,
             mut owners,
         } = board;
+        let (_, mut all) = table.shared.load_new_seat::<Enter>(0);
         for seat in seats {
             let CursorSeat {
                 seat,
@@ -231,6 +233,8 @@ impl Claimer for CursorSeat {
         closed.free();
         Closed { owners, least_bad }
     }
+
+    ghost few_blocks = { λ board. board.limits.0 };
 }
 
 type CursorTable = Table<(), View, Plan, CursorRule, Global>;

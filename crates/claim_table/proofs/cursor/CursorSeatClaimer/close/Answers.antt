@@ -1,4 +1,4 @@
-use Rattle.std.proofs.Common.{◌≡◌, ◌<◌, List, ◌∷◌, ◌++◌, length, length-append, append-nil, map, get_or, rules, arith, sym, refl, ap, ◌∙◌, subst}
+use Rattle.std.proofs.Common.{◌≡◌, ◌<◌, List, [], ◌∷◌, ◌++◌, length, length-append, append-nil, map, get_or, arith, sym, ap, ◌∙◌, subst}
 use Rattle.std.specs.Vec.Iter.{into_iter_items}
 use Rattle.std.specs.Prelude.{All, ◌≤◌}
 use Rattle.claim_table.specs.declared.claimer.Plan.{Plan}
@@ -6,23 +6,16 @@ use Rattle.claim_table.specs.declared.cursor.CursorSeat.{CursorSeat}
 use Rattle.claim_table.specs.Counts.{times}
 use Rattle.claim_table.specs.Claims.{given, IsLegal}
 use Rattle.claim_table.specs.Seats.{seat_record}
-use Rattle.claim_table.proofs.Moves.{joins}
+use Rattle.claim_table.specs.Cursor.{opening_view}
+use Rattle.claim_table.proofs.Moves.{joins, enters}
 use Rattle.claim_table.proofs.Lists.{at_middle, append_one, nil_is, map-one, word_at}
 use Rattle.claim_table.proofs.Views.{only_is}
 use Rattle.claim_table.proofs.Legal.{owner_after, owner_after-one, legal}
 use Rattle.claim_table.proofs.Settled.{once_dry, least_close, seen_close}
 use Rattle.claim_table.proofs.cursor.CursorSeatClaimer.close.Goals as goal
 
-pub loop-seat-init : goal.loop-seat-init
-loop-seat-init c = record {
-  seats = search rules;
-  table = c.args.board.dealt;
-  blocks = c.args.board.dealt_blocks ∙ ap (λ (p : Plan). p.blocks) (sym c.args.board.planned);
-  records = nil_is _ c.args.board.dealt_records;
-  slots = c.args.board.dealt_slots;
-  len = refl;
-  owners = λ b lt. refl;
-}
+pub load_new_seat-all-requires : goal.load_new_seat-all-requires
+load_new_seat-all-requires c = (omega arith, enters (Unit {0}) _ _ (opening_view c.args.board.table.shared.key, []))
 
 -- the next seat stands behind those that were yielded
 next_is : {A : Type 0} (all xs rest : List A) (x : A) → all ≡ xs ++ x ∷ rest → get_or all (length xs) x ≡ x
@@ -37,7 +30,7 @@ join_seat-requires c = let inv = c.loop-seat.invariant in let rest = into_iter_i
     let is = next_is c.args.seats.items c.loop-seat.yielded rest c.in-Some.seat e in
     let r = c.requires.seated (length c.loop-seat.yielded) c.in-Some.seat (next_in c.args.seats.items c.loop-seat.yielded rest c.in-Some.seat e) in
     let Sits : CursorSeat → Type 0 = λ s. s.seat.table_id ≡ c.args.board.table.shared.table_id in
-    (inv.table, subst Sits is r.0.0, nil_is _ c.in-Some.seat.no_slot, omega arith, joins (Unit {0}) _ _ _ _ _ inv.blocks c.in-Some.seat.one_record)
+    (inv.table, subst Sits is r.0.0, nil_is _ c.in-Some.seat.no_slot, omega arith, joins (Unit {0}) _ _ _ _ _ c.in-Some.seat.one_record)
 
 pub loop-seat-preserved : goal.loop-seat-preserved
 loop-seat-preserved c = let inv = c.loop-seat.invariant in let rest = into_iter_items c.next.new.self in let seat = c.in-Some.seat in
@@ -45,9 +38,7 @@ loop-seat-preserved c = let inv = c.loop-seat.invariant in let rest = into_iter_
     record {
       seats = e ∙ sym (append_one c.loop-seat.yielded rest c.in-Some.seat);
       table = c.join_seat.ensures.0 ∙ inv.table;
-      blocks = ap (λ m. m.0.blocks) c.join_seat.ensures.2 ∙ inv.blocks;
       records = ap (λ m. m.0.records) c.join_seat.ensures.2 ∙ ap (λ l. l ++ seat.seat.me.0.records) inv.records ∙ ap (λ l. map seat_record c.loop-seat.yielded ++ l) (only_is _ seat.one_record) ∙ sym (map-one seat_record c.loop-seat.yielded seat);
-      slots = ap (λ m. length m.1) c.join_seat.ensures.2 ∙ inv.slots;
       len = c.give.ensures.len ∙ inv.len;
       owners = λ b lt. let o = get_or c.args.board.owners b 0 in let was = get_or c.loop-seat.owners b 0 in
           c.give.ensures.owners b (omega arith) ∙ ap (λ l. given (times b l) seat.number was) (c.deref.ensures.value ∙ sym seat.takes) ∙ ap (λ n. given (times b (seat_record seat).taken) n was) (sym seat.numbered)

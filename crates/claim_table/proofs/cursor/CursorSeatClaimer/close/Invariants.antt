@@ -8,9 +8,7 @@ abbrev pub invariant-loop-seat : goal.invariant-loop-seat
 invariant-loop-seat l = record {
   seats : l.fn.seats.items ≡ l.yielded ++ into_iter_items l.seat-iterator;
   table : l.all.table_id ≡ l.table.shared.table_id;
-  blocks : l.all.me.0.blocks ≡ l.table.shared.key.blocks;
   records : l.all.me.0.records ≡ map seat_record l.yielded;
-  slots : length l.all.me.1 ≡ 0;
   len : length l.owners ≡ length l.initial.owners;
   owners : (b : ℕ) → b < length l.initial.owners → get_or l.owners b 0 ≡ owner_after b (map seat_record l.yielded) (get_or l.initial.owners b 0);
 }
