@@ -1,0 +1,4 @@
+pub mod Loops
+pub mod Exact
+pub mod Ends
+pub mod Growth

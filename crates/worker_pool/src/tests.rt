@@ -1,0 +1,246 @@
+// Rounds of a job whose blocks have one number each.
+ghost use Rattle.std.specs.Prelude.{◌≡◌, ℕ, ◌<◌, ◌≤◌, ◌%◌, ◌^◌, length, slice_index};
+ghost use Rattle.worker_pool.specs.Marks.{mark_of, mark_below};
+
+use crate::gate::Gate;
+use crate::job::Job;
+use crate::pool::{Round, run_round};
+use crate::shares::Shares;
+use claim_table::Block;
+use std::alloc::Global;
+use std::sync::atomic::{AtomicU64, Ordering};
+use std::test::Fail;
+use std::thread::Threads;
+
+const NOTHING_BAD: u64 = u64::MAX;
+
+// For each block its bad number, or 2^64 - 1 where it has none.
+#[derive(Drop)]
+struct Marks<'a> {
+    bad: &'a [u64],
+}
+
+// How many blocks were worked, and the sum of their numbers.
+#[derive(Clone, Copy)]
+struct Tally {
+    count: u64,
+    numbers: u64,
+}
+
+impl Job for Marks<'_> {
+    type Part = Tally;
+
+    ghost blocks = { λ j. length j.bad.now };
+
+    ghost least_bad = { λ j block. mark_of (slice_index j.bad.now block) };
+
+    ghost is_ready = { λ _ _. Unit {0} };
+
+    ghost stands_for = { λ _ p pairs. p.count ≡ length pairs % 2 ^ 64 };
+
+    fn work(&self, part: &mut Tally, block: Block, seen: u64) -> Option<u64> {
+        part.count = part.count.wrapping_add(1);
+        part.numbers = part.numbers.wrapping_add(block.number as u64);
+        let least = self.bad[block.number as usize];
+        if least < NOTHING_BAD && least <= seen {
+            Some(least)
+        } else {
+            None
+        }
+    }
+
+    ghost bad_below = { λ j block bad _ is. mark_below (slice_index j.bad.now block) bad is };
+}
+
+// Lets every worker pass.
+#[derive(Drop)]
+struct Open;
+
+impl Gate for Open {
+    fn pass(&self, _worker: u32, _turn: u64) {}
+}
+
+// Holds worker 0 at turn 0 until worker 1 has come with turn 1, and worker 1 at turn 1 until
+// worker 0 has come with turn 0. Each pass is noted before the worker is held.
+#[derive(Drop)]
+struct Meet {
+    turns_of_0: AtomicU64,
+    turns_of_1: AtomicU64,
+    gave_up: AtomicU64,
+}
+
+impl Meet {
+    fn new() -> Meet {
+        Meet {
+            turns_of_0: AtomicU64::new(0),
+            turns_of_1: AtomicU64::new(0),
+            gave_up: AtomicU64::new(0),
+        }
+    }
+
+    // Waits until this many turns have come, for a bounded number of looks.
+    fn hold(&self, turns: &AtomicU64, wanted: u64) {
+        for _ in 0..1_000_000_000u64 {
+            if turns.load(Ordering::SeqCst) >= wanted {
+                return;
+            }
+        }
+        self.gave_up.store(1, Ordering::SeqCst);
+    }
+
+    fn have_met(&self) -> bool {
+        self.gave_up.load(Ordering::SeqCst) == 0
+            && self.turns_of_0.load(Ordering::SeqCst) >= 1
+            && self.turns_of_1.load(Ordering::SeqCst) >= 2
+    }
+}
+
+impl Gate for Meet {
+    fn pass(&self, worker: u32, turn: u64) {
+        let turns = turn.saturating_add(1);
+        if worker == 0 {
+            self.turns_of_0.fetch_max(turns, Ordering::SeqCst);
+            if turn == 0 {
+                self.hold(&self.turns_of_1, 2);
+            }
+        } else {
+            self.turns_of_1.fetch_max(turns, Ordering::SeqCst);
+            if turn == 1 {
+                self.hold(&self.turns_of_0, 1);
+            }
+        }
+    }
+}
+
+#[derive(Drop)]
+struct Played {
+    round: Round,
+    parts: Vec<Tally>,
+    shares: Shares,
+}
+
+// A round by so many workers, each with an empty part.
+fn play<R: Threads + Sync, G: Gate>(
+    rt: &R,
+    alloc: Global,
+    bad: &[u64],
+    workers: u32,
+    gate: &G,
+) -> Result<Played, Fail>
+    requires blocks { (0 < length bad.now) × (length bad.now ≤ 1024) }
+    requires workers { (0 < workers) × (workers ≤ 64) }
+{
+    let empty = Tally {
+        count: 0,
+        numbers: 0,
+    };
+    let mut parts = Vec::from_elem(alloc, empty, workers as usize)?;
+    let mut shares = Shares::new(workers);
+    let blocks = bad.len() as u32;
+    let job = Marks { bad };
+    let round = run_round(
+        rt,
+        alloc,
+        &job,
+        gate,
+        blocks,
+        parts.as_mut_slice(),
+        &mut shares,
+    )?;
+    Ok(Played {
+        round,
+        parts,
+        shares,
+    })
+}
+
+// The number of blocks worked, and the sum of their numbers, over all parts.
+fn worked(parts: &[Tally]) -> (u64, u64) {
+    let mut count = 0u64;
+    let mut numbers = 0u64;
+    for part in parts {
+        count = count.wrapping_add(part.count);
+        numbers = numbers.wrapping_add(part.numbers);
+    }
+    (count, numbers)
+}
+
+// Each worker's share, in the shares and among the owners, is the number of blocks that it worked.
+fn shares_agree(played: &Played) -> bool {
+    if played.shares.len() != played.parts.len() {
+        return false;
+    }
+    for (worker, part) in played.parts.iter().enumerate() {
+        let Ok(number) = u32::try_from(worker) else {
+            return false;
+        };
+        let owned = played.round.owners.share(number);
+        if owned != part.count || played.shares.get(worker) != part.count {
+            return false;
+        }
+    }
+    true
+}
+
+#[test]
+fn two_loops_run_beside_each_other(rt: HostRuntime) -> Result<(), Fail> {
+    let gate = Meet::new();
+    let played = play(&rt, rt.alloc(), &[NOTHING_BAD; 88], 2, &gate)?;
+    assert!(rt;
+        gate.have_met(),
+        "a worker was held, and the other did not come"
+    );
+    assert_eq!(rt; worked(played.parts.as_slice()), (88, 3828));
+    Ok(())
+}
+
+#[test]
+fn sixty_four_workers_share_one_block(rt: HostRuntime) -> Result<(), Fail> {
+    let played = play(&rt, rt.alloc(), &[7], 64, &Open)?;
+    assert_eq!(rt; worked(played.parts.as_slice()), (1, 0));
+    assert_eq!(rt; played.round.owners.blocks(), 1);
+    assert_eq!(rt; played.round.least_bad, 7);
+    Ok(())
+}
+
+#[test]
+fn each_of_1024_blocks_is_worked_once(rt: HostRuntime) -> Result<(), Fail> {
+    let bad = [NOTHING_BAD; 1024];
+    for workers in [1, 2, 7, 64] {
+        let played = play(&rt, rt.alloc(), &bad, workers, &Open)?;
+        assert_eq!(rt;
+            worked(played.parts.as_slice()),
+            (1024, 523776),
+            "{workers} workers"
+        );
+        assert_eq!(rt; played.round.least_bad, NOTHING_BAD, "{workers} workers");
+        assert!(rt; shares_agree(&played), "{workers} workers");
+    }
+    Ok(())
+}
+
+#[test]
+fn the_least_bad_number_is_exact(rt: HostRuntime) -> Result<(), Fail> {
+    let mut bad = [NOTHING_BAD; 100];
+    for (block, number) in [(3, 900), (40, 450), (41, 400), (99, 500)] {
+        bad[block] = number;
+    }
+    for workers in [1, 2, 7, 64] {
+        let played = play(&rt, rt.alloc(), &bad, workers, &Open)?;
+        assert_eq!(rt; played.round.least_bad, 400, "{workers} workers");
+    }
+    Ok(())
+}
+
+#[test]
+fn shares_begin_at_zero(rt: HostRuntime) {
+    for workers in [0, 1, 64] {
+        let shares = Shares::new(workers);
+        assert_eq!(rt; shares.len(), workers as usize);
+        assert_eq!(rt; shares.is_empty(), workers == 0);
+        if workers > 0 {
+            assert!(rt; 0 < shares.len());
+            assert_eq!(rt; shares.get(0), 0);
+        }
+    }
+}
