@@ -14,7 +14,7 @@ numbered_trees-append s first zero b = ap₂ (numbered_trees s) (let l : first �
 numbered_trees-append s first (suc a) b =
     ap (numbered_trees s first) (let l : suc a + b ≡ suc (a + b) = omega arith in l)
     ∙ ap (λ gs. tree_of s first ∷ gs) (numbered_trees-append s (first + 1) a b
-        ∙ ap (λ n. numbered_trees s (first + 1) a ++ numbered_trees s n b) (let l : first + 1 + a ≡ first + suc a = omega arith in l))
+    ∙ ap (λ n. numbered_trees s (first + 1) a ++ numbered_trees s n b) (let l : first + 1 + a ≡ first + suc a = omega arith in l))
 
 sum_over-append : (ws : List ℤ) (terms : List Term) (gs hs : List DecoratedTree) → sum_over ws terms (gs ++ hs) ≡ plus (sum_over ws terms gs) (sum_over ws terms hs)
 sum_over-append ws terms gs hs =
@@ -26,8 +26,8 @@ pub partial_sum-cut : (ws : List ℤ) (s : TreeShape) (lo mid hi : ℕ) (terms :
 unfolding partial_sum
 partial_sum-cut ws s lo mid hi terms h k =
     ap (sum_over ws terms) (ap (numbered_trees s lo) (let l : hi - lo ≡ (mid - lo) + (hi - mid) = omega arith in l)
-        ∙ numbered_trees-append s lo (mid - lo) (hi - mid)
-        ∙ ap (λ n. numbered_trees s lo (mid - lo) ++ numbered_trees s n (hi - mid)) (let l : lo + (mid - lo) ≡ mid = omega arith in l))
+    ∙ numbered_trees-append s lo (mid - lo) (hi - mid)
+    ∙ ap (λ n. numbered_trees s lo (mid - lo) ++ numbered_trees s n (hi - mid)) (let l : lo + (mid - lo) ≡ mid = omega arith in l))
     ∙ sum_over-append ws terms (numbered_trees s lo (mid - lo)) (numbered_trees s mid (hi - mid))
 
 -- one more number
@@ -37,8 +37,8 @@ unfolding partial_sum
 partial_sum-next ws s lo k terms h =
     partial_sum-cut ws s lo k (k + 1) terms h (omega arith)
     ∙ ap (λ f. plus (partial_sum ws s lo k terms) f)
-        (ap (λ n. sum_over ws terms (numbered_trees s k n)) (let l : k + 1 - k ≡ 1 = omega arith in l)
-        ∙ plus-zero (contribution ws terms (tree_of s k)))
+    (ap (λ n. sum_over ws terms (numbered_trees s k n)) (let l : k + 1 - k ≡ 1 = omega arith in l)
+    ∙ plus-zero (contribution ws terms (tree_of s k)))
 
 -- no numbers
 pub partial_sum-none : (ws : List ℤ) (s : TreeShape) (lo : ℕ) (terms : List Term) → partial_sum ws s lo lo terms ≡ sum_of_fractions []

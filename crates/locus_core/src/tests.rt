@@ -4,19 +4,24 @@ use std::alloc::Global;
 use std::test::Fail;
 
 // The 27 lines on a cubic surface.
-const CUBIC: &str = "version = 1\nrank = 3\ndegree = 1\nweights = [1, 10, 100, 1000]\nmoduli = [1000000007]\n\
+const CUBIC: &str =
+    "version = 1\nrank = 3\ndegree = 1\nweights = [1, 10, 100, 1000]\nmoduli = [1000000007]\n\
     numerator_bound = 1000\ndenominator_bound = 1000\n\n[[term]]\nclasses = [{ kind = \"hypersurface\", b = 3 }]\n";
 
 // The 2875 lines on a quintic threefold.
-const QUINTIC: &str = "version = 1\nrank = 4\ndegree = 1\nweights = [1, 10, 100, 1000, 10000]\nmoduli = [1000000007]\n\
+const QUINTIC: &str =
+    "version = 1\nrank = 4\ndegree = 1\nweights = [1, 10, 100, 1000, 10000]\nmoduli = [1000000007]\n\
     numerator_bound = 10000\ndenominator_bound = 50\n\n[[term]]\nclasses = [{ kind = \"hypersurface\", b = 5 }]\n";
 
 // Lines in the projective line with these weights and this coefficient: the sum is the coefficient.
 const LINE: &str = "version = 1\nrank = 1\ndegree = 1\nweights = [1, 3]\nmoduli = [101]\n\
     numerator_bound = 10\ndenominator_bound = 4\n\n[[term]]\nclasses = []\n";
+
 const EQUAL_WEIGHTS: &str = "version = 1\nrank = 1\ndegree = 1\nweights = [1, 1]\nmoduli = [101]\n\
     numerator_bound = 10\ndenominator_bound = 4\n\n[[term]]\nclasses = []\n";
-const NOTHING_OF_EQUAL_WEIGHTS: &str = "version = 1\nrank = 1\ndegree = 1\nweights = [1, 1]\nmoduli = [101]\n\
+
+const NOTHING_OF_EQUAL_WEIGHTS: &str =
+    "version = 1\nrank = 1\ndegree = 1\nweights = [1, 1]\nmoduli = [101]\n\
     numerator_bound = 10\ndenominator_bound = 4\n\n[[term]]\ncoefficient = 0\nclasses = []\n";
 
 // Conics in the projective line.
@@ -24,7 +29,8 @@ const CONICS: &str = "version = 1\nrank = 1\ndegree = 2\nweights = [1, 3]\nmodul
     numerator_bound = 100\ndenominator_bound = 100\n\n[[term]]\nclasses = [{ kind = \"r1\", k = 1, power = 2 }]\n";
 
 // Lines that meet four lines in space.
-const MEETING: &str = "version = 1\nrank = 3\ndegree = 1\nweights = [1, 10, 100, 1000]\nmoduli = [1000000007]\n\
+const MEETING: &str =
+    "version = 1\nrank = 3\ndegree = 1\nweights = [1, 10, 100, 1000]\nmoduli = [1000000007]\n\
     numerator_bound = 1000\ndenominator_bound = 1000\n\n[[term]]\nclasses = [{ kind = \"incidence\", q = 2, power = 4 }]\n";
 
 // The status of a run over a file `f` with this text, and what was written to the output and to standard error.
@@ -46,16 +52,27 @@ fn outcome(
         list.push(String::from_str(alloc, word)?)?;
     }
     let mut named = Vec::new(alloc);
-    named.push((String::from_str(alloc, "f")?, Vec::from_slice(alloc, text.as_bytes())?))?;
+    named.push((
+        String::from_str(alloc, "f")?,
+        Vec::from_slice(alloc, text.as_bytes())?,
+    ))?;
     let mut files = MemoryFiles::new(named, Vec::from_slice(alloc, failing_files)?);
     if most == 0 {
         return Err("an output that takes nothing".into());
     }
-    let mut out = MemorySink::new(alloc, 1000, most, failing_out).ok().ok_or("no memory")?;
-    let mut err = MemorySink::new(alloc, 1000, 1000, &[]).ok().ok_or("no memory")?;
+    let mut out = MemorySink::new(alloc, 1000, most, failing_out)
+        .ok()
+        .ok_or("no memory")?;
+    let mut err = MemorySink::new(alloc, 1000, 1000, &[])
+        .ok()
+        .ok_or("no memory")?;
     let answer = locus(alloc, list.as_slice(), &mut files, &mut out, &mut err);
-    let out = String::from_utf8(Vec::from_slice(alloc, out.bytes())?).ok().ok_or("no text")?;
-    let err = String::from_utf8(Vec::from_slice(alloc, err.bytes())?).ok().ok_or("no text")?;
+    let out = String::from_utf8(Vec::from_slice(alloc, out.bytes())?)
+        .ok()
+        .ok_or("no text")?;
+    let err = String::from_utf8(Vec::from_slice(alloc, err.bytes())?)
+        .ok()
+        .ok_or("no text")?;
     Ok(format!(in alloc; "{} {out}|{err}", answer.status)?)
 }
 
@@ -129,7 +146,11 @@ fn faults_of_the_outside_have_their_status(rt: HostRuntime) -> Result<(), Fail> 
     let words = ["locus", "run", "f"];
     let none: &[u64] = &[];
     let found = run(alloc, &["locus", "run", "g"], LINE)?;
-    assert_eq!(rt; found.as_str(), "6 |read fault\n", "a file that is not there");
+    assert_eq!(rt;
+        found.as_str(),
+        "6 |read fault\n",
+        "a file that is not there"
+    );
     let found = outcome(alloc, &words, LINE, 1000, &[0], none)?;
     assert_eq!(rt; found.as_str(), "6 |read fault\n", "a file that fails");
     // The text has 22 bytes: six writes of at most four bytes, and the flush.
