@@ -9,3 +9,6 @@ mod range;
 
 pub use numbered::{append_tree, count_trees};
 pub use range::{NONE_BAD, RangeTotal, first_bad_modulus, sum_range};
+
+#[cfg(test)]
+mod tests;
