@@ -1,9 +1,14 @@
 -- What a seat at the cursor means.
 use Rattle.std.specs.Prelude.{◌≡◌, true}
+use Rattle.claim_table.specs.declared.claimer.Plan.{Plan}
 use Rattle.claim_table.specs.declared.claimer.Record.{Record}
 use Rattle.claim_table.specs.declared.cursor.Cursor.{Cursor}
 use Rattle.claim_table.specs.declared.cursor.CursorSeat.{CursorSeat}
 use Rattle.claim_table.specs.Cursor.{only}
+
+-- how many blocks and workers the round has
+abbrev pub board_plan : Cursor → Plan
+board_plan b = b.plan
 
 -- what the seat's worker did
 abbrev pub seat_record : CursorSeat → Record

@@ -14,7 +14,8 @@ use std::collections::LinkedList;
 #[cfg(test)]
 mod tests;
 
-// What a seat of the table knows. No value of it is made.
+// What a seat of the table knows: the number of blocks, and the records of the workers that it
+// stands for. No value of it is made.
 pub struct View {
     pub blocks: u32,
     pub records: LinkedList<Record>,
@@ -104,6 +105,8 @@ pub struct CursorSeat {
     seat: Seat<(), View>,
     number: u32,
     dry: bool,
+    // The blocks taken so far, with room for all of the round, so that no take needs memory. What
+    // the table knows of them exists in proofs alone.
     taken: Vec<u32>,
     ghost one_record: { length seat.me.0.records ≡ 1 },
     ghost no_slot: { length seat.me.1 ≡ 0 },
@@ -116,11 +119,11 @@ pub struct CursorSeat {
 }
 
 impl Claimer for CursorSeat {
-    ghost use Rattle.claim_table.specs.Seats.{seat_record, IsSeatOf, FoundNone};
+    ghost use Rattle.claim_table.specs.Seats.{board_plan, seat_record, IsSeatOf, FoundNone};
 
     type Board = Cursor;
 
-    ghost plan_of = { λ b. b.plan };
+    ghost plan_of = { board_plan };
 
     ghost record_of = { seat_record };
 
@@ -168,10 +171,10 @@ impl Claimer for CursorSeat {
         requires seat { IsSeatOf self.old board.now }
         ensures seat { IsSeatOf self.new board.now }
         ensures some { IfSome result (λ b. seat_record self.new ≡ with_taken (seat_record self.old) b.number) }
-        ensures once { IfSome result (λ b. (b.number < board.now.plan.blocks) × (times b.number (seat_record self.old).taken ≡ 0)) }
+        ensures once { IfSome result (λ b. (b.number < (board_plan board.now).blocks) × (times b.number (seat_record self.old).taken ≡ 0)) }
         ensures none { IfNone result (seat_record self.new ≡ made_dry (seat_record self.old)) }
         ensures none_left { IfNone result (FoundNone self.old self.new) }
-        ensures room { length (seat_record self.new).taken ≤ board.now.plan.blocks }
+        ensures room { length (seat_record self.new).taken ≤ (board_plan board.now).blocks }
         ensures idle { (seat_record self.old).dry ≡ true → result ≡ None }
     {
         if self.dry {
@@ -203,12 +206,13 @@ impl Claimer for CursorSeat {
         board.table.shared.load::<SeeLeast>(&mut self.seat, 1)
     }
 
-    /// One load by a new seat, and one join for each seat. The table's own clauses are those of the trait, for these types.
+    /// One load by a new seat, and one join for each seat. Its clauses are the trait's, written
+    /// again since a method that takes a `Vec<Self>` cannot inherit them.
     fn close(board: Cursor, seats: Vec<CursorSeat>) -> Closed
-        requires all { length seats.items ≡ board.plan.workers }
+        requires all { length seats.items ≡ (board_plan board).workers }
         requires seated { All (λ s. IsSeatOf s board × Unit {0} × ((seat_record s).dry ≡ true)) seats.items }
         requires in_order { (k : ℕ) (d : CursorSeat) → k < length seats.items → (seat_record (slice_index_or seats.items k d)).worker ≡ k }
-        ensures legal { IsLegal board.plan result.owners (map (λ s. (seat_record s).taken) seats.items) }
+        ensures legal { IsLegal (board_plan board) result.owners (map (λ s. (seat_record s).taken) seats.items) }
         ensures least { result.least_bad ≡ least_of (all_reported (map seat_record seats.items)) }
         ensures seen { All (λ s. All (λ number. result.least_bad ≤ number) (seat_record s).seens) seats.items }
     {

@@ -1,6 +1,6 @@
 // Rounds in a fixed order of takes.
 ghost use Rattle.std.specs.Prelude.{◌≡◌, ℕ, ◌<◌, ◌≤◌, length, slice_index_or, All};
-ghost use Rattle.claim_table.specs.Seats.{seat_record, IsSeatOf};
+ghost use Rattle.claim_table.specs.Seats.{board_plan, seat_record, IsSeatOf};
 
 use crate::Block;
 use crate::claimer::{Claimer, Closed};
@@ -13,7 +13,7 @@ const NOTHING_BAD: u64 = u64::MAX;
 
 // The end of the round, where all seats are dry.
 fn finish(board: Cursor, seats: Vec<CursorSeat>) -> Option<Closed>
-    requires all { length seats.items ≡ board.plan.workers }
+    requires all { length seats.items ≡ (board_plan board).workers }
     requires seated { All (λ s. IsSeatOf s board) seats.items }
     requires in_order { (k : ℕ) (d : CursorSeat) → k < length seats.items → (seat_record (slice_index_or seats.items k d)).worker ≡ k }
 {
