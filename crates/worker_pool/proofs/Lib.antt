@@ -2,3 +2,4 @@ pub mod Loops
 pub mod Exact
 pub mod Ends
 pub mod Growth
+pub mod Sums
