@@ -19,17 +19,17 @@ place_below x c r ne h k = grind (arith, nat_tests)
 pub lifted_below : (x c r : ℕ) → x < r → c ≤ r → lifted x c ≤ r
 lifted_below x c r h k = grind (arith, nat_tests)
 
-apart : (x y : ℕ) (xs : List ℕ) → is_there x xs ≡ true → is_there y xs ≡ false → x ≢ y
+pub apart : (x y : ℕ) (xs : List ℕ) → is_there x xs ≡ true → is_there y xs ≡ false → x ≢ y
 apart x y xs h k e = let a : is_there x xs ≡ is_there y xs = ap (λ z. is_there z xs) e in cc
 
-still_there : (x y : ℕ) (xs : List ℕ) → is_there x xs ≡ true → is_there x (y ∷ xs) ≡ true
+pub still_there : (x y : ℕ) (xs : List ℕ) → is_there x xs ≡ true → is_there x (y ∷ xs) ≡ true
 still_there x y xs h = grind arith
 
-now_there : (x : ℕ) (xs : List ℕ) → is_there x (x ∷ xs) ≡ true
+pub now_there : (x : ℕ) (xs : List ℕ) → is_there x (x ∷ xs) ≡ true
 now_there x xs = grind arith
 
 -- what was there before keeps its colour
-coloured_keeps : (walk : List (ℕ × ℕ)) (before digits colours : List ℕ) (v : ℕ) → IsWalk walk before → is_there v before ≡ true
+pub coloured_keeps : (walk : List (ℕ × ℕ)) (before digits colours : List ℕ) (v : ℕ) → IsWalk walk before → is_there v before ≡ true
     → get_or (coloured walk digits colours) v 0 ≡ get_or colours v 0
 coloured_keeps [] before digits colours v w h = refl
 coloured_keeps (s ∷ walk) before digits colours v w h =
@@ -84,7 +84,7 @@ abbrev pub Differs : List (ℕ × ℕ) → List ℕ → Type 0
 Differs [] colours = Unit {0}
 Differs (s ∷ walk) colours = (get_or colours s.0 0 ≢ get_or colours s.1 0) × Differs walk colours
 
-digits_keep : (walk : List (ℕ × ℕ)) (before colours digits : List ℕ) (v : ℕ) → IsWalk walk before → is_there v before ≡ true
+pub digits_keep : (walk : List (ℕ × ℕ)) (before colours digits : List ℕ) (v : ℕ) → IsWalk walk before → is_there v before ≡ true
     → get_or (digits_of walk colours digits) v 0 ≡ get_or digits v 0
 digits_keep [] before colours digits v w h = refl
 digits_keep (s ∷ walk) before colours digits v w h =
