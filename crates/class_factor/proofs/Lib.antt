@@ -1,2 +1,3 @@
 pub mod OtherClasses
 pub mod SectionTerms
+pub mod Values

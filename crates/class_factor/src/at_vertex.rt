@@ -31,10 +31,9 @@ pub fn vertex_part(
     vertex_part_ratio(setup, class, c, s, modulus).residue(modulus)
 }
 
-/// The residues of the top and the bottom of the same fraction, without a division.
+/// The residues of the top and the bottom of the same fraction, without a division. With no edge the power is 0 too.
 pub fn vertex_part_ratio(setup: &Setup, class: &Class, c: u8, s: u8, modulus: &Modulus) -> Ratio
     requires c_within { c < length setup.now }
-    requires s_positive { 1 ≤ s }
     ensures { IsRatioOf modulus.now (class_vertex setup.now class.now c s) result }
 {
     let one = modulus.of_u64(1);
@@ -43,16 +42,16 @@ pub fn vertex_part_ratio(setup: &Setup, class: &Class, c: u8, s: u8, modulus: &M
             let scale = modulus.of_u64(b as u64);
             Ratio {
                 top: one,
-                bottom: scaled_power(setup, scale, c, s - 1, modulus),
+                bottom: scaled_power(setup, scale, c, s, modulus),
             }
         }
         Class::R1 { k } => {
             let scale = modulus.sub(modulus.of_u64(0), modulus.of_u64(k as u64));
-            Ratio::whole(scaled_power(setup, scale, c, s - 1, modulus), modulus)
+            Ratio::whole(scaled_power(setup, scale, c, s, modulus), modulus)
         }
         Class::Contact => {
             let scale = modulus.of_u64(2);
-            Ratio::whole(scaled_power(setup, scale, c, s - 1, modulus), modulus)
+            Ratio::whole(scaled_power(setup, scale, c, s, modulus), modulus)
         }
         Class::Mark { .. } | Class::Incidence { .. } | Class::Psi { .. } => Ratio::whole(
             one, modulus,
@@ -60,13 +59,13 @@ pub fn vertex_part_ratio(setup: &Setup, class: &Class, c: u8, s: u8, modulus: &M
     }
 }
 
-/// The residue of the power by `exponent` of the weight of `c` times the number that leaves `scale`.
-fn scaled_power(setup: &Setup, scale: u64, c: u8, exponent: u8, modulus: &Modulus) -> u64
+/// The residue of the power by `s - 1`, or 0, of the weight of `c` times the number that leaves `scale`.
+fn scaled_power(setup: &Setup, scale: u64, c: u8, s: u8, modulus: &Modulus) -> u64
     requires scale_below { scale < modulus.now }
     requires c_within { c < length setup.now }
     ensures { (z : ℤ) → Leaves modulus.now z scale
-        → Leaves modulus.now (power (z *ℤ weight setup.now c) exponent) result }
+        → Leaves modulus.now (power (z *ℤ weight setup.now c) (s - 1)) result }
 {
     let scaled = modulus.mul(scale, setup.weight_modulo(c, modulus));
-    modulus.pow(scaled, exponent as u64)
+    modulus.pow(scaled, s.saturating_sub(1) as u64)
 }

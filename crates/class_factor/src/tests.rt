@@ -2,11 +2,14 @@
 
 ghost use Rattle.std.specs.Bool.{OnTrue};
 ghost use Rattle.residue.specs.Degrees.{HasParameterWithinLimit};
+ghost use Rattle.class_factor.specs.Limits.{IsClassFor, IsPowerFor};
+ghost use Rattle.std.specs.Prelude.{All};
 
 use super::*;
-use residue::{Class, Modulus, Setup};
+use residue::{Class, Modulus, Power, Powers, Setup, Term};
 use std::process::Abort;
 use std::test::Fail;
+use tree_parts::TreeParts;
 
 /// 2^62 - 1 = 3 * 715827883 * 2147483647, the greatest modulus.
 const GREATEST: u64 = 4_611_686_018_427_387_903;
@@ -210,6 +213,238 @@ fn parts_at_vertices(rt: HostRuntime) -> Result<(), Fail> {
     ] {
         let found = at_vertex(&rt, weights, &class, c, s, modulus)?;
         assert_eq!(rt; found, residue, "{class:?} at {s} edges modulo {modulus}");
+    }
+    Ok(())
+}
+
+/// Whether the parameter and the mark of the class are within their limits.
+fn is_class_for(class: &Class, marks: u8) -> bool
+    ensures { OnTrue result (IsClassFor marks class.now) }
+{
+    is_within(class)
+        && match *class {
+            Class::Mark { mark } | Class::Psi { mark } => 1 <= mark && mark <= marks,
+            Class::Hypersurface { .. } | Class::Incidence { .. } => true,
+            Class::R1 { .. } | Class::Contact => true,
+        }
+}
+
+/// A tree of one edge of degree 2.
+const LINE_OF_DEGREE_2: TreeParts<'static> = TreeParts {
+    edges: &[(0, 1)],
+    colours: &[0, 1],
+    degrees: &[2],
+    marks: &[],
+};
+
+/// A tree of two edges, with a mark at an end.
+const PATH: TreeParts<'static> = TreeParts {
+    edges: &[(0, 1), (0, 2)],
+    colours: &[1, 0, 0],
+    degrees: &[1, 1],
+    marks: &[2],
+};
+
+/// A tree of four edges, three of them at one vertex and the fourth at it too.
+const STAR: TreeParts<'static> = TreeParts {
+    edges: &[(0, 3), (1, 3), (2, 3), (3, 4)],
+    colours: &[0, 1, 2, 3, 4],
+    degrees: &[1, 2, 3, 1],
+    marks: &[3, 3, 0, 4],
+};
+
+fn value_at(
+    rt: &impl Abort,
+    weights: &[i64],
+    class: &Class,
+    parts: &TreeParts,
+    modulus: u64,
+) -> Result<Option<u64>, Fail> {
+    let setup = Setup::new(weights)?;
+    let modulus = Modulus::new(modulus)?;
+    assert!(rt; parts.are_sound() && parts.marks.len() <= 12);
+    assert!(rt; parts.colours.iter().all(|c| *c <= setup.rank()));
+    assert!(rt; is_class_for(class, parts.marks.len() as u8));
+    Ok(
+        whole_ratio(&setup, class, parts, &modulus)
+            .residue(&modulus)
+            .ok(),
+    )
+}
+
+#[test]
+fn values_of_classes(rt: HostRuntime) -> Result<(), Fail> {
+    let five = [1, 10, 100, 1000, 10_000];
+    let quintic = Class::Hypersurface { b: 5 };
+    for (weights, class, parts, modulus, residue) in [
+        ([1, 3].as_slice(), R1, LINE_OF_DEGREE_2, 101, Some(99)),
+        ([1, 3].as_slice(), R1, PATH, 101, Some(98)),
+        (
+            [1, 3].as_slice(),
+            Class::Mark { mark: 1 },
+            PATH,
+            101,
+            Some(1),
+        ),
+        (
+            [1, 3].as_slice(),
+            Class::Psi { mark: 1 },
+            PATH,
+            101,
+            Some(1),
+        ),
+        (
+            [1, 3].as_slice(),
+            Class::Incidence { q: 2 },
+            PATH,
+            101,
+            Some(8),
+        ),
+        (
+            [1, 3].as_slice(),
+            Class::Incidence { q: 3 },
+            LINE_OF_DEGREE_2,
+            1001,
+            Some(26),
+        ),
+        (
+            five.as_slice(),
+            quintic,
+            STAR,
+            PRIME,
+            Some(640_713_620_354_772_872),
+        ),
+        (five.as_slice(), quintic, STAR, 9, None),
+        (
+            five.as_slice(),
+            Class::Contact,
+            STAR,
+            PRIME,
+            Some(1_479_895_457_200_599_267),
+        ),
+        (
+            five.as_slice(),
+            Class::R1 { k: 2 },
+            STAR,
+            PRIME,
+            Some(3_131_790_561_226_788_580),
+        ),
+        (
+            five.as_slice(),
+            Class::Incidence { q: 12 },
+            STAR,
+            GREATEST,
+            Some(974_154_819_425_974_299),
+        ),
+        (
+            five.as_slice(),
+            Class::Mark { mark: 4 },
+            STAR,
+            GREATEST,
+            Some(10_000),
+        ),
+        (
+            five.as_slice(),
+            Class::Mark { mark: 3 },
+            STAR,
+            GREATEST,
+            Some(1),
+        ),
+    ] {
+        let found = value_at(&rt, weights, &class, &parts, modulus)?;
+        assert_eq!(rt; found, residue, "{class:?} modulo {modulus}");
+    }
+    Ok(())
+}
+
+/// Whether each of the classes is within its limits.
+fn are_powers_for(powers: &Powers, marks: u8) -> bool
+    ensures { OnTrue result (All (IsPowerFor marks) powers.now) }
+{
+    for power in powers.as_slice() {
+        if !is_class_for(&power.class, marks) {
+            return false;
+        }
+    }
+    true
+}
+
+#[test]
+fn values_of_terms(rt: HostRuntime) -> Result<(), Fail> {
+    let alloc = rt.alloc();
+    let several = vec![in alloc;
+        Power {
+            class: Class::Hypersurface { b: 5 },
+            power: 1
+        },
+        Power {
+            class: Class::Mark { mark: 4 },
+            power: 3
+        },
+        Power {
+            class: Class::Incidence { q: 2 },
+            power: 2
+        },
+        Power {
+            class: Class::Psi { mark: 1 },
+            power: 9
+        },
+    ]?;
+    let beyond = vec![in alloc;
+        Power {
+            class: Class::R1 { k: 2 },
+            power: 64
+        },
+        Power {
+            class: Class::Contact,
+            power: 2
+        },
+    ]?;
+    for (weights, coefficient, classes, parts, modulus, residue) in vec![in alloc;
+        (
+            [1, 3, 0, 0, 0],
+            1,
+            vec![in alloc;
+                Power {
+                    class: R1,
+                    power: 2
+                }
+            ]?,
+            LINE_OF_DEGREE_2,
+            101,
+            Some(4)
+        ),
+        (
+            [1, 3, 0, 0, 0],
+            -3,
+            Vec::new(alloc),
+            LINE_OF_DEGREE_2,
+            101,
+            Some(98)
+        ),
+        (
+            [1, 10, 100, 1000, 10_000],
+            -1_000_000_000,
+            several,
+            STAR,
+            PRIME,
+            Some(3_910_028_726_639_569_769)
+        ),
+        ([1, 10, 100, 1000, 10_000], 7, beyond, STAR, GREATEST, None),
+    ]? {
+        let setup = Setup::new(&weights)?;
+        let modulus = Modulus::new(modulus)?;
+        let term = Term {
+            coefficient,
+            classes: Powers::of(classes),
+        };
+        assert!(rt; parts.are_sound() && parts.marks.len() <= 12);
+        assert!(rt; parts.colours.iter().all(|c| *c <= setup.rank()));
+        assert!(rt; are_powers_for(&term.classes, parts.marks.len() as u8));
+        let found = term_ratio(&setup, &term, &parts, &modulus)
+            .residue(&modulus)
+            .ok();
+        assert_eq!(rt; found, residue, "{coefficient} modulo {}", modulus.get());
     }
     Ok(())
 }

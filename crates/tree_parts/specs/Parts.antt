@@ -1,0 +1,24 @@
+-- The lists of a decorated tree, borrowed.
+use Rattle.std.specs.Prelude.{◌≡◌, ◌<◌, ◌≤◌, length, All}
+use Rattle.trees.specs.Decorated.{DecoratedTree}
+use Rattle.tree_parts.specs.declared.parts.TreeParts.{TreeParts}
+
+-- the tree that the lists are of
+abbrev pub tree_of_parts : TreeParts → DecoratedTree
+tree_of_parts p = record {
+  vertices = length p.colours.now;
+  edges = p.edges.now;
+  colours = p.colours.now;
+  degrees = p.degrees.now;
+  marks = p.marks.now;
+}
+
+-- each edge and each mark is at vertices that have a colour, each edge has a degree from 1 to 10, and there are at most 11 vertices
+-- and 10 edges
+pub record AreParts (p : TreeParts) : Type 0 where
+  pub few_vertices : length p.colours.now ≤ 11
+  pub few_edges : length p.edges.now ≤ 10
+  pub ends_within : All (λ e. (e.0 < length p.colours.now) × (e.1 < length p.colours.now)) p.edges.now
+  pub degree_each : length p.degrees.now ≡ length p.edges.now
+  pub degrees_within : All (λ a. (1 ≤ a) × (a ≤ 10)) p.degrees.now
+  pub marks_within : All (λ v. v < length p.colours.now) p.marks.now
