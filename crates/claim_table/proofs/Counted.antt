@@ -6,10 +6,11 @@ use Rattle.claim_table.specs.declared.claimer.Plan.{Plan}
 use Rattle.claim_table.specs.declared.claimer.Record.{Record}
 use Rattle.claim_table.specs.declared.cursor.View.{View}
 use Rattle.claim_table.specs.Counts.{total, once_below}
-use Rattle.claim_table.specs.Claims.{one, is_of, taken_count, dry_count, takes_of, reported_up_to, seen_up_to, all_reported}
+use Rattle.claim_table.specs.Claims.{one, is_of, taken_count, dry_count, takes_of, reported_up_to, seen_up_to}
 use Rattle.claim_table.specs.Cursor.{all_records, cursor, bad, IsClaimed}
-use Rattle.claim_table.proofs.Lists.{total-append, at_most_or, all_at_most, least_most, least_there, none_less_than_least, none_up_to}
-use Rattle.claim_table.proofs.Legal.{ones, least_reported, up_to_reports}
+use Rattle.claim_table.proofs.Lists.{total-append, at_most_or}
+use Rattle.claim_table.proofs.Legal.{ones}
+use Rattle.claim_table.proofs.BadWord.{IsLeastWord, least_stays, least_from_records, least_of_records, seen_by_records}
 
 -- f of each record of each view, added up
 abbrev pub over : (Record → ℕ) → List View → ℕ
@@ -27,22 +28,12 @@ pub record IsCounted (p : Plan) (words : List ℕ) (views : List View) : Type 0 
   pub each_once : (block : ℕ) → over (takes_of block) views ≡ once_below (min (cursor words) p.blocks) block
   pub takes : over taken_count views ≡ min (cursor words) p.blocks
   pub counts : cursor words ≡ over taken_count views + over dry_count views
-  pub most : bad words ≤ 18446744073709551615
-  pub some_reported : (x : ℕ) → x < 18446744073709551615 → bad words ≤ x → 0 < over (reported_up_to x) views
-  pub none_less : (x : ℕ) → x < bad words → over (reported_up_to x) views ≡ 0
-  pub none_seen : (x : ℕ) → x < bad words → over (seen_up_to x) views ≡ 0
+  pub least : IsLeastWord (bad words) (λ x. over (reported_up_to x) views) (λ x. over (seen_up_to x) views)
   pub of_round : total (stranger p.blocks) views ≡ 0
 
 over_all : (f : Record → ℕ) (views : List View) → over f views ≡ total f (all_records views)
 over_all f [] = refl
 over_all f (v ∷ vs) = let a = over_all f vs in let b = total-append f v.records (all_records vs) in omega arith
-
-seens_from : (n : ℕ) (rs : List Record) → ((x : ℕ) → x < n → total (seen_up_to x) rs ≡ 0) → All (λ r. All (λ number. n ≤ number) r.seens) rs
-seens_from n rs none k d lt = all_at_most n (get_or rs k d).seens (λ x less. let a = none x less in let b = at_most_or (seen_up_to x) rs k d lt in omega arith)
-
-seens_to : (n x : ℕ) (rs : List Record) → x < n → All (λ r. All (λ number. n ≤ number) r.seens) rs → total (seen_up_to x) rs ≡ 0
-seens_to n x [] less h = refl
-seens_to n x (r ∷ rs) less h = let a = none_up_to n x r.seens less (h 0 r (omega arith)) in let b = seens_to n x rs less (λ k d lt. h (suc k) d (omega arith)) in omega arith
 
 equal_of : (a b : ℕ) → eqb a b ≡ true → a ≡ b
 equal_of a b e = grind (arith, nat_tests)
@@ -73,10 +64,7 @@ counted p words views h = let rs = all_records views in let sum = λ (f : Record
   each_once = λ b. sum (takes_of b) ∙ h.each_once b;
   takes = sum taken_count ∙ h.takes;
   counts = (let a = sum taken_count in let b = sum dry_count in let c = h.counts in omega arith);
-  most = (let a = least_most (all_reported rs) in let b = h.least in omega arith);
-  some_reported = λ x less le. let a = least_there x (all_reported rs) (let b = h.least in omega arith) less in let b = up_to_reports x rs in let c = sum (reported_up_to x) in omega arith;
-  none_less = λ x less. let a = none_less_than_least x (all_reported rs) (let b = h.least in omega arith) in let b = up_to_reports x rs in let c = sum (reported_up_to x) in omega arith;
-  none_seen = λ x less. sum (seen_up_to x) ∙ seens_to (bad words) x rs less h.seen;
+  least = least_stays (bad words) _ _ _ _ (λ x. sum (reported_up_to x)) (λ x. sum (seen_up_to x)) (least_from_records (bad words) rs h.least h.seen);
   of_round = rounds_to p.blocks views h.of_round;
 }
 
@@ -90,7 +78,7 @@ claimed p words views h = let rs = all_records views in let sum = λ (f : Record
   takes = sym (sum taken_count) ∙ h.takes;
   counts = (let a = sum taken_count in let b = sum dry_count in let c = h.counts in omega arith);
   all_taken = λ some_dry. let a = sum taken_count in let b = sum dry_count in let c = h.counts in let t = h.takes in omega arith;
-  least = least_reported (bad words) rs h.most (λ x lt le. let a = h.some_reported x lt le in let c = sum (reported_up_to x) in omega arith) (λ x less. let a = h.none_less x less in let c = sum (reported_up_to x) in omega arith);
-  seen = seens_from (bad words) rs (λ x less. sym (sum (seen_up_to x)) ∙ h.none_seen x less);
+  least = least_of_records (bad words) rs (least_stays (bad words) _ _ _ _ (λ x. sym (sum (reported_up_to x))) (λ x. sym (sum (seen_up_to x))) h.least);
+  seen = seen_by_records (bad words) rs (least_stays (bad words) _ _ _ _ (λ x. sym (sum (reported_up_to x))) (λ x. sym (sum (seen_up_to x))) h.least);
   of_round = rounds_from p.blocks views h.of_round;
 }

@@ -31,6 +31,18 @@ at_most_or f [] k d lt = absurd (omega arith)
 at_most_or f (r ∷ rs) zero d lt = omega arith
 at_most_or f (r ∷ rs) (suc k) d lt = let a = at_most_or f rs k d (omega arith) in omega arith
 
+-- an element was cut in two, two were joined, or one that counts nothing came
+pub total_dealt : {A : Type 0} (f : A → ℕ) (views : List A) (id : ℕ) (v : A) (left right : A) → get_elem? views id ≡ some v → f v ≡ f left + f right
+    → total f (set views id left ++ right ∷ []) ≡ total f views
+total_dealt f views id v left right at e = let a = total-set f views id v left at in let b = total-append f (set views id left) (right ∷ []) in omega arith
+
+pub total_joined : {A : Type 0} (f : A → ℕ) (views : List A) (id other : ℕ) (v w both spent : A) → get_elem? views id ≡ some v → get_elem? (set views id both) other ≡ some w → f both + f spent ≡ f v + f w
+    → total f (set (set views id both) other spent) ≡ total f views
+total_joined f views id other v w both spent at at' e = let a = total-set f views id v both at in let b = total-set f (set views id both) other w spent at' in omega arith
+
+pub total_nothing : {A : Type 0} (views : List A) (f : A → ℕ) (v : A) → f v ≡ 0 → total f (views ++ v ∷ []) ≡ total f views
+total_nothing views f v e = let a = total-append f views (v ∷ []) in omega arith
+
 pub times-append : (x : ℕ) (xs ys : List ℕ) → times x (xs ++ ys) ≡ times x xs + times x ys
 times-append x [] ys = omega arith
 times-append x (y ∷ xs) ys = let p = times-append x xs ys in omega arith

@@ -5,7 +5,7 @@ use Rattle.std.proofs.lemmas.Bool.{lt-ltb, le-ltb}
 use Rattle.std.proofs.Math.Nat.{mod-eq_of_lt}
 use Rattle.std.proofs.lemmas.Bool.Decides.{nat_tests}
 use mathlib.Core.Option.{some, none}
-use native.Mathlib.Decide.{dec_lt, dec_le}
+use native.Mathlib.Decide.{dec_lt}
 use Rattle.atomic_table.specs.Table.{Me, step, keeps, opening, Allows, Splits, Joins, Enters}
 use lib.ListN.{get_elem?}
 use Rattle.atomic_table.proofs.Lists.{at_set}
@@ -15,9 +15,10 @@ use Rattle.claim_table.specs.declared.cursor.View.{View}
 use Rattle.claim_table.specs.Counts.{bit, total}
 use Rattle.claim_table.specs.Claims.{fresh, with_taken, made_dry, with_reported, with_seen, one, is_of, taken_count, dry_count, takes_of, reported_up_to, seen_up_to}
 use Rattle.claim_table.specs.Cursor.{cursor, bad, only, with_only, after_take, Holds, Takes, Reports, Sees, NewSeat, view, rest_of, dealt_left, dealt_right, joined, spent, fresh_from, opening_view}
+use Rattle.claim_table.proofs.BadWord.{least_opens, least_stays, least_reports, least_sees}
 use Rattle.claim_table.proofs.Counted.{over, stranger, IsCounted, counted, claimed}
-use Rattle.claim_table.proofs.Lists.{total-set, at_most_total, total_le, times-append, up_to-append, total-append, bit_le, bit_not_le}
-use Rattle.claim_table.proofs.Views.{over_only, over_at, total_dealt, total_joined, total_first, total_nothing}
+use Rattle.claim_table.proofs.Lists.{total-set, at_most_total, total_le, total_dealt, total_joined, total_nothing, times-append, up_to-append, total-append}
+use Rattle.claim_table.proofs.Views.{over_only, over_at, total_first}
 
 dry_at_most_one : (r : Record) → dry_count r ≤ one r
 dry_at_most_one r = grind (arith, nat_tests)
@@ -69,10 +70,7 @@ takes_one p words views id v h e at lt = let n : ℕ = cursor words in let r : R
           rw c (omega arith));
       takes = rw c (omega arith);
       counts = rw c (omega arith);
-      most = rw b h.most;
-      some_reported = (λ x less le. let k = move (reported_up_to x) in let o = h.some_reported x less (rw (← b) le) in omega arith);
-      none_less = (λ x less. let k = move (reported_up_to x) in let o = h.none_less x (rw (← b) less) in omega arith);
-      none_seen = (λ x less. let k = move (seen_up_to x) in let o = h.none_seen x (rw (← b) less) in omega arith);
+      least = rw b (least_stays (bad words) _ _ _ _ (λ x. let k = move (reported_up_to x) in omega arith) (λ x. let k = move (seen_up_to x) in omega arith) h.least);
       of_round = same_strangers p.blocks views id v r e at ∙ h.of_round;
     }
 
@@ -94,10 +92,7 @@ takes_none p words views id v h e at wet le = let n : ℕ = cursor words in let 
       each_once = (λ x. let k = move (takes_of x) in let o = h.each_once x in let s = none_more n p.blocks x le in rw c (omega arith));
       takes = rw c (omega arith);
       counts = rw c (omega arith);
-      most = rw b h.most;
-      some_reported = (λ x less le. let k = move (reported_up_to x) in let o = h.some_reported x less (rw (← b) le) in omega arith);
-      none_less = (λ x less. let k = move (reported_up_to x) in let o = h.none_less x (rw (← b) less) in omega arith);
-      none_seen = (λ x less. let k = move (seen_up_to x) in let o = h.none_seen x (rw (← b) less) in omega arith);
+      least = rw b (least_stays (bad words) _ _ _ _ (λ x. let k = move (reported_up_to x) in omega arith) (λ x. let k = move (seen_up_to x) in omega arith) h.least);
       of_round = same_strangers p.blocks views id v r e at ∙ h.of_round;
     }
 
@@ -126,11 +121,7 @@ takes S p slots id me e wet s kept homes at fits = let h = counted p s.words s.v
   ),
 )
 
--- a report brings a number up to x, or there was one
-some_up_to : (k x bad : ℕ) (was : ℕ) (now : ℕ) → now ≡ was + (bit (leb k x) + 0) → (bad ≤ x → 0 < was) → min bad k ≤ x → Dec (k ≤ x) → 0 < now
-some_up_to k x bad was now e h le (yes d) = let b = bit_le k x d in omega arith
-some_up_to k x bad was now e h le (no d) = let b : bad ≤ x = omega arith in let c = h b in omega arith
-
+-- a number is reported, and the bad word is the lesser of it and what it was
 pub reports_one : (p : Plan) (words : List ℕ) (views : List View) (id : ℕ) (v : View) (k : ℕ) → IsCounted p words views → length v.records ≡ 1 → get_elem? views id ≡ some v
     → IsCounted p (set words 1 (min (bad words) k)) (set views id (with_only v (with_reported (only v) k)))
 reports_one p words views id v k h e at = let n : ℕ = min (bad words) k in let r : Record = with_reported (only v) k in let ws : List ℕ = set words 1 n in
@@ -138,7 +129,7 @@ reports_one p words views id v k h e at = let n : ℕ = min (bad words) k in let
     let b : bad ws ≡ n = get_or-set_same words 1 n 0 (omega arith) in
     let c : cursor ws ≡ cursor words = get_or-set_other words 1 0 n 0 (omega arith) in
     let move = λ (g : Record → ℕ). over_only g views id v r e at in
-    let all = h.counts in let takes = h.takes in let most = h.most in let dry = move dry_count in let took = move taken_count in
+    let all = h.counts in let takes = h.takes in let dry = move dry_count in let took = move taken_count in
     record {
       limits = h.limits;
       two_words = length-set words 1 n ∙ two;
@@ -147,11 +138,7 @@ reports_one p words views id v k h e at = let n : ℕ = min (bad words) k in let
       each_once = (λ x. let k = move (takes_of x) in let o = h.each_once x in rw c (omega arith));
       takes = rw c (omega arith);
       counts = rw c (omega arith);
-      most = rw b (omega arith);
-      some_reported = (λ x less le. let m = move (reported_up_to x) in let a = up_to-append x (only v).reported (k ∷ []) in
-          some_up_to k x (bad words) (over (reported_up_to x) views) (over (reported_up_to x) (set views id (with_only v r))) (omega arith) (h.some_reported x less) (rw b at le) (dec_le k x));
-      none_less = (λ x less. let m = move (reported_up_to x) in let a = up_to-append x (only v).reported (k ∷ []) in let less' : x < n = rw b at less in let o = h.none_less x (omega arith) in let q = bit_not_le k x (omega arith) in omega arith);
-      none_seen = (λ x less. let m = move (seen_up_to x) in let less' : x < n = rw b at less in let o = h.none_seen x (omega arith) in omega arith);
+      least = rw b (least_reports (bad words) k _ _ _ _ (λ x. let m = move (reported_up_to x) in let a = up_to-append x (only v).reported (k ∷ []) in omega arith) (λ x. let m = move (seen_up_to x) in omega arith) h.least);
       of_round = same_strangers p.blocks views id v r e at ∙ h.of_round;
     }
 
@@ -181,10 +168,7 @@ sees_one p words views id v h e at = let n : ℕ = bad words in let r : Record =
       each_once = (λ x. let k = move (takes_of x) in let o = h.each_once x in rw c (omega arith));
       takes = rw c (omega arith);
       counts = rw c (omega arith);
-      most = rw b h.most;
-      some_reported = (λ x less le. let m = move (reported_up_to x) in let o = h.some_reported x less (rw b at le) in omega arith);
-      none_less = (λ x less. let m = move (reported_up_to x) in let less' : x < n = rw b at less in let o = h.none_less x less' in omega arith);
-      none_seen = (λ x less. let m = move (seen_up_to x) in let less' : x < n = rw b at less in let o = h.none_seen x less' in let a = up_to-append x (only v).seens (n ∷ []) in let q = bit_not_le n x less' in omega arith);
+      least = rw b (least_sees n _ _ _ _ (λ x. let m = move (reported_up_to x) in omega arith) (λ x. let m = move (seen_up_to x) in let a = up_to-append x (only v).seens (n ∷ []) in omega arith) h.least);
       of_round = same_strangers p.blocks views id v r e at ∙ h.of_round;
     }
 
@@ -195,7 +179,7 @@ sees S p slots id me e s kept homes at fits = let h = counted p s.words s.views 
   keeps,
   tt,
   claimed p _ _ (sees_one p s.words s.views id me.0 h e at),
-  (refl, λ x less. let a = over_at (reported_up_to x) s.views id me.0 e at in let o = h.none_less x less in omega arith),
+  (refl, λ x less. let a = over_at (reported_up_to x) s.views id me.0 e at in let o = h.least.none_less x less in omega arith),
 )
 
 rest_fewer : (rs : List Record) → 0 < length rs → length rs ≡ length (rest_of rs) + 1
@@ -216,10 +200,7 @@ same_totals p words views now h e s = record {
   each_once = (λ b. e (takes_of b) ∙ h.each_once b);
   takes = e taken_count ∙ h.takes;
   counts = (let a = e taken_count in let b = e dry_count in let c = h.counts in omega arith);
-  most = h.most;
-  some_reported = (λ x less le. let a = e (reported_up_to x) in let b = h.some_reported x less le in omega arith);
-  none_less = (λ x less. e (reported_up_to x) ∙ h.none_less x less);
-  none_seen = (λ x less. e (seen_up_to x) ∙ h.none_seen x less);
+  least = least_stays (bad words) _ _ _ _ (λ x. e (reported_up_to x)) (λ x. e (seen_up_to x)) h.least;
   of_round = s ∙ h.of_round;
 }
 
@@ -291,10 +272,7 @@ opens_with p limits = let nothing = λ (g : Record → ℕ) (h : (j : ℕ) → g
       each_once = (λ x. let a = nothing (takes_of x) (λ j. refl) in let b = none_below p.blocks x in omega arith);
       takes = omega arith;
       counts = omega arith;
-      most = omega arith;
-      some_reported = (λ x less le. absurd (omega arith));
-      none_less = (λ x less. let a = nothing (reported_up_to x) (λ j. refl) in omega arith);
-      none_seen = (λ x less. let a = nothing (seen_up_to x) (λ j. refl) in omega arith);
+      least = least_opens _ _ (λ x. let a = nothing (reported_up_to x) (λ j. refl) in omega arith) (λ x. let a = nothing (seen_up_to x) (λ j. refl) in omega arith);
       of_round = (let a : stranger p.blocks (opening_view p) ≡ 0 = no_strangers (eqb p.blocks p.blocks) (length (fresh_from 0 p.workers)) 0 (eq-eqb p.blocks p.blocks refl) in omega arith);
     }
 

@@ -10,8 +10,9 @@ use Rattle.claim_table.specs.Counts.{total, once_below, least_of}
 use Rattle.claim_table.specs.Claims.{one, dry_count, takes_of, reported_up_to, seen_up_to, all_reported}
 use Rattle.claim_table.specs.Cursor.{cursor, bad, IsClaimed}
 use Rattle.claim_table.proofs.Counted.{over, IsCounted, counted}
-use Rattle.claim_table.proofs.Lists.{all_at, all_at_most, at_most_or, get_or-map, length-map_is, some_item}
-use Rattle.claim_table.proofs.Legal.{ones, nothing_of_none, all_dry, least_reported}
+use Rattle.claim_table.proofs.Lists.{all_at, get_or-map, length-map_is, some_item}
+use Rattle.claim_table.proofs.BadWord.{IsLeastWord, least_stays, least_of_records, seen_by_records}
+use Rattle.claim_table.proofs.Legal.{ones, nothing_of_none, all_dry}
 
 -- One view has the records of all seats.
 module _ {A : Type 0} (done : A → Record) (seats : List A) (p : Plan) (words : List ℕ) (views : List View) (id : ℕ) (v : View) (kept : IsClaimed p words views) (at : get_elem? views id ≡ some v)
@@ -38,12 +39,13 @@ module _ {A : Type 0} (done : A → Record) (seats : List A) (p : Plan) (words :
       let d = gathered dry_count in let c = h.counts in let m = h.takes in let q : min (cursor words) p.blocks ≡ p.blocks = omega arith in
       ap (total (takes_of b)) (sym e) ∙ sym (gathered (takes_of b)) ∙ h.each_once b ∙ ap (λ k. once_below k b) q
 
+  -- the bad word, by the records of this view
+  least_word : IsLeastWord (bad words) (λ x. total (reported_up_to x) (map done seats)) (λ x. total (seen_up_to x) (map done seats))
+  least_word = least_stays (bad words) _ _ _ _ (λ x. ap (total (reported_up_to x)) (sym e) ∙ sym (gathered (reported_up_to x))) (λ x. ap (total (seen_up_to x)) (sym e) ∙ sym (gathered (seen_up_to x))) h.least
+
   pub least_close : bad words ≡ least_of (all_reported (map done seats))
-  least_close = least_reported (bad words) v.records h.most (λ x lt le. let a = h.some_reported x lt le in let b = gathered (reported_up_to x) in omega arith)
-      (λ x less. let a = h.none_less x less in let b = gathered (reported_up_to x) in omega arith) ∙ ap (λ rs. least_of (all_reported rs)) e
+  least_close = least_of_records (bad words) (map done seats) least_word
 
   pub seen_close : All (λ s. All (λ number. bad words ≤ number) (done s).seens) seats
-  seen_close k d lt = let n = length-map_is done seats in let is = get_or-map done seats k d (done d) lt in
-      subst (λ (r : Record). All (λ number. bad words ≤ number) r.seens) is
-      (all_at_most (bad words) (get_or (map done seats) k (done d)).seens
-      (λ x less. let a = h.none_seen x less in let b = gathered (seen_up_to x) in let c = at_most_or (seen_up_to x) (map done seats) k (done d) (omega arith) in let f = ap (total (seen_up_to x)) e in omega arith))
+  seen_close k d lt = let n = length-map_is done seats in
+      subst (λ (r : Record). All (λ number. bad words ≤ number) r.seens) (get_or-map done seats k d (done d) lt) (seen_by_records (bad words) (map done seats) least_word k (done d) (omega arith))

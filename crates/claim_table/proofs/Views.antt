@@ -1,5 +1,5 @@
 -- Sums over the records of all views, where one view changes, is cut in two or is joined.
-use Rattle.std.proofs.Common.{◌≡◌, ℕ, suc, ◌+◌, ◌-◌, ◌<◌, ◌≤◌, List, [], ◌∷◌, ◌++◌, length, set, refl, ap, arith}
+use Rattle.std.proofs.Common.{◌≡◌, ℕ, suc, ◌+◌, ◌-◌, ◌<◌, ◌≤◌, List, [], ◌∷◌, length, set, refl, ap, arith}
 use mathlib.Core.Option.{some}
 use lib.ListN.{get_elem?}
 use Rattle.claim_table.specs.declared.claimer.Record.{Record}
@@ -8,7 +8,7 @@ use Rattle.claim_table.specs.Counts.{total}
 use Rattle.claim_table.specs.Claims.{fresh}
 use Rattle.claim_table.specs.Cursor.{only, first_of, rest_of, with_only, view, fresh_from, dealt_left, dealt_right}
 use Rattle.claim_table.proofs.Counted.{over}
-use Rattle.claim_table.proofs.Lists.{total-set, total-append, at_most_total}
+use Rattle.claim_table.proofs.Lists.{total-set, at_most_total}
 
 pub total_one : (g : Record → ℕ) (rs : List Record) → length rs ≡ 1 → total g rs ≡ g (first_of rs)
 total_one g [] e = absurd (omega arith)
@@ -25,21 +25,9 @@ pub over_at : (g : Record → ℕ) (views : List View) (id : ℕ) (v : View) →
 over_at g views id v one at = let f : View → ℕ = λ w. total g w.records in let p : f v ≤ total f views = at_most_total f views id v at in
     let q : total g v.records ≡ g (only v) = total_one g v.records one in omega arith
 
--- what another seat has, where two views change
-pub total_dealt : (f : View → ℕ) (views : List View) (id : ℕ) (v : View) (left right : View) → get_elem? views id ≡ some v → f v ≡ f left + f right
-    → total f (set views id left ++ right ∷ []) ≡ total f views
-total_dealt f views id v left right at e = let a = total-set f views id v left at in let b = total-append f (set views id left) (right ∷ []) in omega arith
-
-pub total_joined : (f : View → ℕ) (views : List View) (id other : ℕ) (v w both spent : View) → get_elem? views id ≡ some v → get_elem? (set views id both) other ≡ some w → f both + f spent ≡ f v + f w
-    → total f (set (set views id both) other spent) ≡ total f views
-total_joined f views id other v w both spent at at' e = let a = total-set f views id v both at in let b = total-set f (set views id both) other w spent at' in omega arith
-
 pub total_first : (g : Record → ℕ) (rs : List Record) → 0 < length rs → total g rs ≡ total g (rest_of rs) + (g (first_of rs) + 0)
 total_first g [] e = absurd (omega arith)
 total_first g (r ∷ rs) e = omega arith
-
-pub total_nothing : (views : List View) (f : View → ℕ) (v : View) → f v ≡ 0 → total f (views ++ v ∷ []) ≡ total f views
-total_nothing views f v e = let a = total-append f views (v ∷ []) in omega arith
 
 pub fresh_step : (k n : ℕ) → k < n → fresh_from k (n - k) ≡ fresh k ∷ fresh_from (k + 1) (n - (k + 1))
 fresh_step k n h = let e : n - k ≡ suc (n - (k + 1)) = omega arith in rw e refl
