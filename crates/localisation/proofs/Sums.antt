@@ -1,8 +1,7 @@
 -- Partial sums over numbers may be cut anywhere.
-use Rattle.std.proofs.Common.{◌≡◌, ℕ, zero, suc, ◌+◌, ◌-◌, ◌≤◌, List, [], ◌∷◌, ◌++◌, map, ℤ, refl, sym, ap, ap₂, ◌∙◌, arith}
-use Rattle.std.proofs.Math.Numerals.{add-one}
+use Rattle.std.proofs.Common.{◌≡◌, ℕ, zero, suc, ◌+◌, ◌-◌, ◌≤◌, List, [], ◌∷◌, ◌++◌, map, ℤ, ap, ap₂, ◌∙◌, arith}
 use Rattle.std.proofs.lemmas.List.{map-append}
-use Rattle.arithmetic.specs.Fractions.{Fraction, plus, sum_of_fractions}
+use Rattle.arithmetic.specs.Fractions.{plus, sum_of_fractions}
 use Rattle.arithmetic.proofs.FractionSums.{plus-zero, sum_of_fractions-append}
 use Rattle.residue.specs.declared.class.Term.{Term}
 use Rattle.trees.specs.Decorated.{DecoratedTree, TreeShape}

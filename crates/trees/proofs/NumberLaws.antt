@@ -7,6 +7,7 @@ use Rattle.trees.specs.Edges.{below}
 use Rattle.trees.specs.Decorated.{DecoratedTree, TreeShape, is_decorated, all_trees}
 use Rattle.trees.specs.Numbering.{joined, split}
 use Rattle.trees.specs.Numbers.{bases, trees_with, trees_from, tree_count, tree_by, tree_from, tree_of, digits_by, number_of, numbered_trees}
+use Rattle.trees.specs.Correspondence.{NumbersAreTrees}
 use Rattle.trees.proofs.Listed.{IsIn}
 use Rattle.trees.proofs.AllTrees.{IsDecorated, parts, in_all_trees, is_in_all_trees}
 use Rattle.trees.proofs.AllTrees
@@ -171,3 +172,11 @@ pub length-all_trees : (s : TreeShape) → s.degree < 11 → length (all_trees s
 length-all_trees s small =
     length_permutation (numbered_trees s 0 (tree_count s)) (all_trees s) (all_numbered s small)
     ∙ ap length (numbered_below s (tree_count s)) ∙ length-map (below (tree_count s)) (tree_of s) ∙ length-below (tree_count s)
+
+pub numbers_are_trees : (s : TreeShape) → s.degree < 11 → NumbersAreTrees s
+numbers_are_trees s small = record {
+  trees = λ k h. (tree_of_in_all_trees s k small h, number_of-tree_of s k small h);
+  numbers = λ g i. (number_of_below s g small (is_in_all_trees s g i), tree_of-number_of s g small (is_in_all_trees s g i));
+  all = all_numbered s small;
+  count = length-all_trees s small;
+}
