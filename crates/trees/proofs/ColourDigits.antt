@@ -169,8 +169,8 @@ module _ (n r : ℕ) (es walk : List (ℕ × ℕ)) (some : 0 < n) (t : IsTreeWal
         record {
           long = length-coloured walk ds ds ∙ d.long;
           within = everywhere (λ v. get_or cs v 0 ≤ r) first
-          (colours_within walk (0 ∷ []) ds cs r t.walks colours_follow (at_zero (λ v. get_or cs v 0 ≤ r) first)
-          (λ v m. d.places v (walked_below n walk v t.within m) (walked_apart walk (0 ∷ []) 0 v t.walks (zero_there 0 refl) m)));
+              (colours_within walk (0 ∷ []) ds cs r t.walks colours_follow (at_zero (λ v. get_or cs v 0 ≤ r) first)
+              (λ v m. d.places v (walked_below n walk v t.within m) (walked_apart walk (0 ∷ []) 0 v t.walks (zero_there 0 refl) m)));
           differ = λ e i. edge_differs walk cs e (follows_differs walk ds cs colours_follow) (t.covers e i);
         }
 
@@ -198,7 +198,7 @@ module _ (n r : ℕ) (es walk : List (ℕ × ℕ)) (some : 0 < n) (t : IsTreeWal
           long = length-digits_of walk cs cs ∙ c.long;
           first = (let e = first_digit in omega arith);
           places = λ v k ne. digits_below walk (0 ∷ []) (digits_of walk cs cs) cs r digits_of_follow
-          (λ u m. c.within u (walked_below n walk u t.within m)) t.walks (at_zero (λ u. get_or cs u 0 ≤ r) first) v (t.reaches v k ne);
+              (λ u m. c.within u (walked_below n walk u t.within m)) t.walks (at_zero (λ u. get_or cs u 0 ≤ r) first) v (t.reaches v k ne);
         }
 
     pub colours_back : coloured walk (digits_of walk cs cs) (digits_of walk cs cs) ≡ cs
