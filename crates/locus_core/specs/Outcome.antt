@@ -3,16 +3,16 @@ use Rattle.std.specs.Prelude.{◌≡◌, ℕ, List}
 use Rattle.trees.specs.Numbers.{tree_count}
 use Rattle.localisation.specs.Agreement.{IsLeastBad, NoneBad, IsFirstBad}
 use Rattle.problem_toml.specs.Facts.{ProblemView}
-use Rattle.range_sum.specs.Totals.{shape_of, is_bad_of, is_bad_modulo, ArePartialSums}
+use Rattle.range_sum.specs.Totals.{shape_of, is_bad_of, is_bad_modulo, AreKontsevichSums}
 
 -- how many decorated trees a problem has
 abbrev pub count_of : ProblemView → ℕ
 count_of p = tree_count (shape_of p)
 
--- no number is bad, and the residues are those of the sums over the numbers of all decorated trees
+-- no tree is bad, and each residue is that of its integral's Kontsevich sum over all decorated trees
 pub record IsDone (p : ProblemView) (residues : List ℕ) : Type 0 where
   pub none_bad : NoneBad (is_bad_of p) 0 (count_of p)
-  pub sums : ArePartialSums p 0 (count_of p) residues
+  pub sums : AreKontsevichSums p residues
 
 -- the least number whose tree has no residue, and the place of the first modulus for which it has none
 pub record IsNoInverse (p : ProblemView) (number place : ℕ) : Type 0 where

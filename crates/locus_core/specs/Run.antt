@@ -30,7 +30,7 @@ ForProblem told words P = IfSome (input_of told words) (λ bytes. IfOk (reading 
 abbrev pub ForRefusal : Option NamedFiles → List (List ℕ) → (ProblemError → Type 0) → Type 0
 ForRefusal told words P = IfSome (input_of told words) (λ bytes. IfErr (reading bytes) P)
 
--- the residues of the sums over all decorated trees are printed
+-- the residues of Kontsevich's sums over all decorated trees are printed
 pub record PrintsResidues (old new : Option (List ℕ)) (p : ProblemView) : Type 0 where
   pub residues : List ℕ
   pub done : IsDone p residues

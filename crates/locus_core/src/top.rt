@@ -52,7 +52,8 @@ pub fn locus<F: Files, O: Sink, E: Sink>(
     ensures accepted { (result.status ≡ 0) ⊎ (result.status ≡ 4) ⊎ (result.status ≡ 7) →
         IfSome (input_of (F.content files.old) (map string_bytes words.now)) (λ bytes. IsOk (reading bytes)) }
 
-    // At status 0 each printed residue is the residue of the sum over the numbers of all decorated trees.
+    // At status 0 each printed residue is the residue of its integral's Kontsevich sum over all decorated trees, those
+    // of n vertices divided by n!.
     ensures residues { result.status ≡ 0 → ForProblem (F.content files.old) (map string_bytes words.now)
         (PrintsResidues (O.written out.old) (O.written out.new)) }
 

@@ -5,13 +5,14 @@ use Rattle.std.proofs.Math.Nat.{mod-eq_of_lt}
 use Rattle.arithmetic.specs.Fractions.{fraction, plus, IsResidue}
 use Rattle.arithmetic.proofs.Modular.{Leaves-pos}
 use Rattle.arithmetic.proofs.Residues.{IsResidue-plus}
-use Rattle.trees.specs.Numbers.{tree_of}
+use Rattle.trees.specs.Numbers.{tree_of, tree_count}
 use Rattle.localisation.specs.Contribution.{contribution, partial_sum}
 use Rattle.localisation.specs.Agreement.{modulus_at, integral_at, NoneBad}
+use Rattle.localisation.proofs.AllNumbers.{residues_of_all}
 use Rattle.localisation.proofs.Sums.{partial_sum-none, partial_sum-next}
 use Rattle.problem_toml.specs.declared.problem.Problem.{Problem}
 use Rattle.problem_toml.specs.Problems.{view}
-use Rattle.range_sum.specs.Totals.{shape_of, places_of, ArePartialSums, AddsResidue}
+use Rattle.range_sum.specs.Totals.{shape_of, places_of, ArePartialSums, AreKontsevichSums, AddsResidue}
 use Rattle.range_sum.proofs.LineResidues.{residue_of_whole}
 
 -- each modulus of a problem is above 1
@@ -57,3 +58,11 @@ none_more bad first k none good j from below e =
 
 pub sums_to : (p : Problem) (first k end : ℕ) (sums : List ℕ) → k ≡ end → ArePartialSums (view p) first k sums → ArePartialSums (view p) first end sums
 sums_to p first k end sums e h = subst (λ n. ArePartialSums (view p) first n sums) e h
+
+-- over all numbers the sums are Kontsevich's
+pub all_numbers : (p : Problem) (first end : ℕ) (sums : List ℕ) → first ≡ 0 → end ≡ tree_count (shape_of (view p))
+    → ArePartialSums (view p) first end sums → AreKontsevichSums (view p) sums
+all_numbers p first end sums e f h =
+    let degree = p.rules.degree in
+    residues_of_all p.setup (shape_of (view p)) p.moduli p.integrals sums (omega arith)
+    (subst (λ n. ArePartialSums (view p) 0 n sums) f (subst (λ n. ArePartialSums (view p) n end sums) e h))

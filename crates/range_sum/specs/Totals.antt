@@ -3,7 +3,7 @@ use Rattle.std.specs.Prelude.{◌≡◌, ℕ, ◌+◌, ◌*◌, ◌%◌, ◌≤�
 use Rattle.arithmetic.specs.Fractions.{Fraction, IsResidue}
 use Rattle.trees.specs.Decorated.{TreeShape}
 use Rattle.trees.specs.Numbers.{tree_of}
-use Rattle.localisation.specs.Contribution.{partial_sum}
+use Rattle.localisation.specs.Contribution.{partial_sum, kontsevich_sum}
 use Rattle.localisation.specs.Agreement.{is_bad_for, is_bad_number, AreResiduesOf}
 use Rattle.problem_toml.specs.Facts.{ProblemView}
 
@@ -26,6 +26,10 @@ places_of p = length p.integrals * length p.moduli
 -- the residues of the partial sums over the numbers from first to end - 1
 abbrev pub ArePartialSums : ProblemView → ℕ → ℕ → List ℕ → Type 0
 ArePartialSums p first end sums = AreResiduesOf p.moduli p.integrals (partial_sum p.weights (shape_of p) first end) sums
+
+-- the residues of Kontsevich's sums over all decorated trees
+abbrev pub AreKontsevichSums : ProblemView → List ℕ → Type 0
+AreKontsevichSums p sums = AreResiduesOf p.moduli p.integrals (kontsevich_sum p.weights (shape_of p)) sums
 
 -- places past the sums hold 0
 abbrev pub IsEmptyFrom : ℕ → List ℕ → Type 0

@@ -7,7 +7,7 @@ ghost use Rattle.localisation.specs.Contribution.{contribution};
 ghost use Rattle.localisation.specs.Agreement.{lacks_residue, modulus_at, integral_at, IsLeastBad, NoneBad, IsFirstBad};
 ghost use Rattle.problem_toml.specs.Problems.{view as problem_view};
 ghost use Rattle.range_sum.specs.Lines.{HaveHypersurfaces};
-ghost use Rattle.range_sum.specs.Totals.{shape_of, is_bad_of, is_bad_modulo, places_of, ArePartialSums, IsEmptyFrom, AddsResidue};
+ghost use Rattle.range_sum.specs.Totals.{shape_of, is_bad_of, is_bad_modulo, places_of, ArePartialSums, AreKontsevichSums, IsEmptyFrom, AddsResidue};
 
 use crate::lines::line;
 use crate::numbered::end_colours;
@@ -28,7 +28,7 @@ pub struct RangeTotal {
 }
 
 /// Sums the contributions of the trees of the numbers from `first` to `end - 1`, where `end` is at most the number of
-/// decorated trees of the problem. It takes no memory.
+/// decorated trees of the problem. Over all numbers, from 0 on, the sums are Kontsevich's. It takes no memory.
 ///
 /// Where a tree of the range is bad for some modulus, the least such number is told, and the sums mean nothing.
 pub fn sum_range(problem: &Problem, first: u64, end: u64) -> RangeTotal
@@ -37,6 +37,8 @@ pub fn sum_range(problem: &Problem, first: u64, end: u64) -> RangeTotal
     ensures least { result.least ≢ NONE_BAD → IsLeastBad (is_bad_of (problem_view problem.now)) first end result.least }
     ensures none { result.least ≡ NONE_BAD → NoneBad (is_bad_of (problem_view problem.now)) first end }
     ensures sums { result.least ≡ NONE_BAD → ArePartialSums (problem_view problem.now) first end result.sums }
+    ensures all { result.least ≡ NONE_BAD → first ≡ 0 → end ≡ tree_count (shape_of (problem_view problem.now))
+        → AreKontsevichSums (problem_view problem.now) result.sums }
     ensures rest { result.least ≡ NONE_BAD → IsEmptyFrom (places_of (problem_view problem.now)) result.sums }
 {
     let mut sums = [0; 64];

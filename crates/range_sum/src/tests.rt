@@ -4,7 +4,13 @@ use std::alloc::Global;
 use std::test::Fail;
 
 // Lines in projective space of dimension `rank` with these weights, modulo this modulus, on a hypersurface of this degree.
-fn lines(alloc: Global, rank: &str, weights: &str, modulus: &str, b: &str) -> Result<Problem, Fail> {
+fn lines(
+    alloc: Global,
+    rank: &str,
+    weights: &str,
+    modulus: &str,
+    b: &str,
+) -> Result<Problem, Fail> {
     let text = format!(in alloc;
         "version = 1\nrank = {rank}\ndegree = 1\nweights = [{weights}]\nmoduli = [{modulus}]\nnumerator_bound = 1\n\
         denominator_bound = 1\n[[term]]\nclasses = [{{ kind = \"hypersurface\", b = {b} }}]\n"
@@ -46,6 +52,9 @@ fn names_the_least_number_without_an_inverse(rt: HostRuntime) -> Result<(), Fail
     assert_eq!(rt; first_bad_modulus(&problem, 1), Some(0));
     let mut text = Vec::new(alloc);
     append_tree(&mut text, &problem, 1).ok().ok_or("no memory")?;
-    assert_eq!(rt; text.as_slice(), b"edges 0-1:1 colours 0 2 marks -".as_slice());
+    assert_eq!(rt;
+        text.as_slice(),
+        b"edges 0-1:1 colours 0 2 marks -".as_slice()
+    );
     Ok(())
 }

@@ -1,7 +1,7 @@
 use Rattle.std.proofs.Common.{refl, ◌∙◌, arith}
 use Rattle.problem_toml.specs.Problems.{view}
 use Rattle.range_sum.specs.Totals.{is_bad_of}
-use Rattle.range_sum.proofs.RangeLaws.{no_numbers, one_more, none_more, sums_to, zeros}
+use Rattle.range_sum.proofs.RangeLaws.{no_numbers, one_more, none_more, sums_to, all_numbers, zeros}
 use Rattle.range_sum.proofs.range.sum_range.Goals as goal
 
 pub loop-k-init : goal.loop-k-init
@@ -24,3 +24,8 @@ loop-k-preserved c =
 
 pub returns-clause-sums : goal.returns-clause-sums
 returns-clause-sums c e = sums_to c.args.problem.now c.args.first c.loop-k.k c.args.end _ (omega arith) c.loop-k.invariant.sums
+
+pub returns-clause-all : goal.returns-clause-all
+returns-clause-all c e from to =
+    all_numbers c.args.problem.now c.args.first c.args.end _ from to
+    (sums_to c.args.problem.now c.args.first c.loop-k.k c.args.end _ (omega arith) c.loop-k.invariant.sums)
