@@ -4,9 +4,9 @@ use Rattle.std.specs.Prelude.{All}
 use native.Mathlib.Decide.{dec_le}
 use Rattle.claim_table.specs.declared.claimer.Record.{Record}
 use Rattle.claim_table.specs.Counts.{bit, total, least_of}
-use Rattle.claim_table.specs.Claims.{reported_up_to, seen_up_to, all_reported}
+use Rattle.claim_table.specs.Claims.{all_reported}
 use Rattle.claim_table.proofs.Lists.{bit_le, bit_not_le, least_most, least_there, none_less_than_least, all_at_most, none_up_to, at_most_or}
-use Rattle.claim_table.proofs.Legal.{least_reported, up_to_reports}
+use Rattle.claim_table.proofs.Legal.{reported_up_to, seen_up_to, least_reported, up_to_reports}
 
 -- the word is the least number reported, or 2^64 - 1 where there is none, and at most each number seen
 pub record IsLeastWord (word : ℕ) (reported seen : ℕ → ℕ) : Type 0 where

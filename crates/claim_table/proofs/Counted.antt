@@ -6,10 +6,10 @@ use Rattle.claim_table.specs.declared.claimer.Plan.{Plan}
 use Rattle.claim_table.specs.declared.claimer.Record.{Record}
 use Rattle.claim_table.specs.declared.cursor.View.{View}
 use Rattle.claim_table.specs.Counts.{total, once_below}
-use Rattle.claim_table.specs.Claims.{one, is_of, taken_count, dry_count, takes_of, reported_up_to, seen_up_to}
+use Rattle.claim_table.specs.Claims.{is_of, taken_count, dry_count, takes_of}
 use Rattle.claim_table.specs.Cursor.{all_records, cursor, bad, IsClaimed}
 use Rattle.claim_table.proofs.Lists.{total-append, at_most_or}
-use Rattle.claim_table.proofs.Legal.{ones}
+use Rattle.claim_table.proofs.Legal.{one, reported_up_to, seen_up_to, ones}
 use Rattle.claim_table.proofs.BadWord.{IsLeastWord, least_stays, least_from_records, least_of_records, seen_by_records}
 
 -- f of each record of each view, added up

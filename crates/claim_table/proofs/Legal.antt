@@ -8,8 +8,19 @@ use native.Mathlib.Decide.{ℕ_discrete, dec_lt}
 use Rattle.claim_table.specs.declared.claimer.Plan.{Plan}
 use Rattle.claim_table.specs.declared.claimer.Record.{Record}
 use Rattle.claim_table.specs.Counts.{bit, times, up_to, total, sum_below, once_below, least_of}
-use Rattle.claim_table.specs.Claims.{given, all_reported, one, dry_count, takes_of, reported_up_to, IsShareOf, IsLegal}
+use Rattle.claim_table.specs.Claims.{given, all_reported, dry_count, takes_of, IsShareOf, IsLegal}
 use Rattle.claim_table.proofs.Lists.{times-append, up_to-append, at_most_or, bit_eq, bit_ne, least_is, get_or-map, length-map_is, some_item, sum_below_add, sum_below_same, sum_below_none, total_by_times, mul_add}
+
+-- 1 for each record
+abbrev pub one : Record → ℕ
+one r = 1
+
+-- how many numbers up to x the record has reported, or seen
+abbrev pub reported_up_to : ℕ → Record → ℕ
+reported_up_to x r = up_to x r.reported
+
+abbrev pub seen_up_to : ℕ → Record → ℕ
+seen_up_to x r = up_to x r.seens
 
 -- the last worker of a list to have taken the block, and else the owner that there was
 abbrev pub owner_after : ℕ → List Record → ℕ → ℕ

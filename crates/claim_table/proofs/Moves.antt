@@ -13,12 +13,13 @@ use Rattle.claim_table.specs.declared.claimer.Plan.{Plan}
 use Rattle.claim_table.specs.declared.claimer.Record.{Record}
 use Rattle.claim_table.specs.declared.cursor.View.{View}
 use Rattle.claim_table.specs.Counts.{bit, total}
-use Rattle.claim_table.specs.Claims.{fresh, with_taken, made_dry, with_reported, with_seen, one, is_of, taken_count, dry_count, takes_of, reported_up_to, seen_up_to}
+use Rattle.claim_table.specs.Claims.{fresh, with_taken, made_dry, with_reported, with_seen, is_of, taken_count, dry_count, takes_of}
 use Rattle.claim_table.specs.Cursor.{cursor, bad, only, with_only, after_take, Holds, Takes, Reports, Sees, NewSeat, view, rest_of, dealt_left, dealt_right, joined, spent, fresh_from, opening_view}
 use Rattle.claim_table.proofs.BadWord.{least_opens, least_stays, least_reports, least_sees}
 use Rattle.claim_table.proofs.Counted.{over, stranger, IsCounted, counted, claimed}
 use Rattle.claim_table.proofs.Lists.{total-set, at_most_total, total_le, total_dealt, total_joined, total_nothing, times-append, up_to-append, total-append}
 use Rattle.claim_table.proofs.Views.{over_only, over_at, total_first}
+use Rattle.claim_table.proofs.Legal.{one, reported_up_to, seen_up_to}
 
 dry_at_most_one : (r : Record) → dry_count r ≤ one r
 dry_at_most_one r = grind (arith, nat_tests)

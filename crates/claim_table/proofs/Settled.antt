@@ -7,12 +7,12 @@ use Rattle.claim_table.specs.declared.claimer.Plan.{Plan}
 use Rattle.claim_table.specs.declared.claimer.Record.{Record}
 use Rattle.claim_table.specs.declared.cursor.View.{View}
 use Rattle.claim_table.specs.Counts.{total, once_below, least_of}
-use Rattle.claim_table.specs.Claims.{one, dry_count, takes_of, reported_up_to, seen_up_to, all_reported}
+use Rattle.claim_table.specs.Claims.{dry_count, takes_of, all_reported}
 use Rattle.claim_table.specs.Cursor.{cursor, bad, IsClaimed}
 use Rattle.claim_table.proofs.Counted.{over, IsCounted, counted}
 use Rattle.claim_table.proofs.Lists.{all_at, get_or-map, length-map_is, some_item}
 use Rattle.claim_table.proofs.BadWord.{IsLeastWord, least_stays, least_of_records, seen_by_records}
-use Rattle.claim_table.proofs.Legal.{ones, nothing_of_none, all_dry}
+use Rattle.claim_table.proofs.Legal.{one, reported_up_to, seen_up_to, ones, nothing_of_none, all_dry}
 
 -- One view has the records of all seats.
 module _ {A : Type 0} (done : A → Record) (seats : List A) (p : Plan) (words : List ℕ) (views : List View) (id : ℕ) (v : View) (kept : IsClaimed p words views) (at : get_elem? views id ≡ some v)

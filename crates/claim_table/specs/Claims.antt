@@ -2,7 +2,7 @@
 use Rattle.std.specs.Prelude.{◌≡◌, ℕ, zero, suc, ◌<◌, ◌==◌, ◌&&◌, true, false, List, [], ◌∷◌, ◌++◌, length, slice_index, slice_index_or, nat_lt}
 use Rattle.claim_table.specs.declared.claimer.Plan.{Plan}
 use Rattle.claim_table.specs.declared.claimer.Record.{Record}
-use Rattle.claim_table.specs.Counts.{bit, times, up_to}
+use Rattle.claim_table.specs.Counts.{bit, times}
 
 -- a round of this many blocks for this many workers
 abbrev pub plan : ℕ → ℕ → Plan
@@ -28,10 +28,6 @@ with_reported r number = record r { reported = r.reported ++ number ∷ [] }
 abbrev pub with_seen : Record → ℕ → Record
 with_seen r number = record r { seens = r.seens ++ number ∷ [] }
 
--- 1 for each record
-abbrev pub one : Record → ℕ
-one r = 1
-
 -- 1 for a record of this worker
 abbrev pub is_of : ℕ → Record → ℕ
 is_of worker r = bit (r.worker == worker)
@@ -47,13 +43,6 @@ dry_count r = bit r.dry
 -- how often the record has taken this block
 abbrev pub takes_of : ℕ → Record → ℕ
 takes_of block r = times block r.taken
-
--- how many numbers up to x the record has reported, or seen
-abbrev pub reported_up_to : ℕ → Record → ℕ
-reported_up_to x r = up_to x r.reported
-
-abbrev pub seen_up_to : ℕ → Record → ℕ
-seen_up_to x r = up_to x r.seens
 
 -- all numbers that these workers reported
 abbrev pub all_reported : List Record → List ℕ
