@@ -33,6 +33,11 @@ const MEETING: &str =
     "version = 1\nrank = 3\ndegree = 1\nweights = [1, 10, 100, 1000]\nmoduli = [1000000007]\n\
     numerator_bound = 1000\ndenominator_bound = 1000\n\n[[term]]\nclasses = [{ kind = \"incidence\", q = 2, power = 4 }]\n";
 
+// Lines in the projective line with a point at a mark.
+const MARKED: &str =
+    "version = 1\nrank = 1\ndegree = 1\nmarks = 1\nweights = [1, 3]\nmoduli = [101]\n\
+    numerator_bound = 10\ndenominator_bound = 4\n\n[[term]]\nclasses = [{ kind = \"mark\", mark = 1 }]\n";
+
 // The status of a run over a file `f` with this text, and what was written to the output and to standard error.
 fn run(alloc: Global, words: &[&str], text: &str) -> Result<String, Fail> {
     outcome(alloc, words, text, 1000, &[], &[])
@@ -107,6 +112,7 @@ fn refused_problems_name_the_rule(rt: HostRuntime) -> Result<(), Fail> {
     let alloc = rt.alloc();
     let cases = [
         (CONICS, "3 |problem refused 101 DegreeNotBuilt 2\n"),
+        (MARKED, "3 |problem refused 102 FormNotBuilt\n"),
         (MEETING, "3 |problem refused 102 FormNotBuilt\n"),
         ("", "3 |problem refused 102 FormNotBuilt\n"),
         ("version = ", "3 |problem refused 2 NotToml\n"),
