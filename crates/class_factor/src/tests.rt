@@ -1,10 +1,5 @@
 //! Values by exact fractions, whose tops and bottoms were computed as whole numbers of any size.
 
-ghost use Rattle.std.specs.Bool.{OnTrue};
-ghost use Rattle.residue.specs.Degrees.{HasParameterWithinLimit};
-ghost use Rattle.class_factor.specs.Limits.{IsClassFor, IsPowerFor};
-ghost use Rattle.std.specs.Prelude.{All};
-
 use super::*;
 use residue::{Class, Modulus, Power, Powers, Setup, Term};
 use std::process::Abort;
@@ -21,18 +16,6 @@ const R1: Class = Class::R1 { k: 1 };
 
 const LINE: Class = Class::Hypersurface { b: 1 };
 
-/// Whether the parameter of the class is within its limit.
-fn is_within(class: &Class) -> bool
-    ensures { OnTrue result (HasParameterWithinLimit class.now) }
-{
-    match *class {
-        Class::Hypersurface { b } => 1 <= b && b <= 64,
-        Class::Incidence { q } => 2 <= q && q <= 12,
-        Class::R1 { k } => 1 <= k && k <= 64,
-        Class::Contact | Class::Mark { .. } | Class::Psi { .. } => true,
-    }
-}
-
 fn at_edge(
     rt: &impl Abort,
     weights: &[i64],
@@ -43,7 +26,7 @@ fn at_edge(
 ) -> Result<Option<u64>, Fail> {
     let setup = Setup::new(weights)?;
     let (i, j) = ends;
-    assert!(rt; is_within(class));
+    assert!(rt; is_class_for(class, 12));
     assert!(rt; i <= setup.rank() && j <= setup.rank() && i != j && 1 <= a && a <= 10);
     Ok(edge_part(&setup, class, i, j, a, &Modulus::new(modulus)?).ok())
 }
@@ -57,7 +40,7 @@ fn at_vertex(
     modulus: u64,
 ) -> Result<Option<u64>, Fail> {
     let setup = Setup::new(weights)?;
-    assert!(rt; is_within(class));
+    assert!(rt; is_class_for(class, 12));
     assert!(rt; c <= setup.rank() && 1 <= s && s <= 10);
     Ok(vertex_part(&setup, class, c, s, &Modulus::new(modulus)?).ok())
 }
@@ -217,18 +200,6 @@ fn parts_at_vertices(rt: HostRuntime) -> Result<(), Fail> {
     Ok(())
 }
 
-/// Whether the parameter and the mark of the class are within their limits.
-fn is_class_for(class: &Class, marks: u8) -> bool
-    ensures { OnTrue result (IsClassFor marks class.now) }
-{
-    is_within(class)
-        && match *class {
-            Class::Mark { mark } | Class::Psi { mark } => 1 <= mark && mark <= marks,
-            Class::Hypersurface { .. } | Class::Incidence { .. } => true,
-            Class::R1 { .. } | Class::Contact => true,
-        }
-}
-
 /// A tree of one edge of degree 2.
 const LINE_OF_DEGREE_2: TreeParts<'static> = TreeParts {
     edges: &[(0, 1)],
@@ -357,18 +328,6 @@ fn values_of_classes(rt: HostRuntime) -> Result<(), Fail> {
     Ok(())
 }
 
-/// Whether each of the classes is within its limits.
-fn are_powers_for(powers: &Powers, marks: u8) -> bool
-    ensures { OnTrue result (All (IsPowerFor marks) powers.now) }
-{
-    for power in powers.as_slice() {
-        if !is_class_for(&power.class, marks) {
-            return false;
-        }
-    }
-    true
-}
-
 #[test]
 fn values_of_terms(rt: HostRuntime) -> Result<(), Fail> {
     let alloc = rt.alloc();
@@ -440,7 +399,7 @@ fn values_of_terms(rt: HostRuntime) -> Result<(), Fail> {
         };
         assert!(rt; parts.are_sound() && parts.marks.len() <= 12);
         assert!(rt; parts.colours.iter().all(|c| *c <= setup.rank()));
-        assert!(rt; are_powers_for(&term.classes, parts.marks.len() as u8));
+        assert!(rt; are_powers_for(term.classes.as_slice(), parts.marks.len() as u8));
         let found = term_ratio(&setup, &term, &parts, &modulus)
             .residue(&modulus)
             .ok();

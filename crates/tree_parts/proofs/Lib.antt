@@ -1,1 +1,2 @@
 pub mod Edgewise
+pub mod EndLists

@@ -1,6 +1,7 @@
 -- The lists of a decorated tree, borrowed.
-use Rattle.std.specs.Prelude.{◌≡◌, ◌<◌, ◌≤◌, length, All}
+use Rattle.std.specs.Prelude.{◌≡◌, ℕ, ◌<◌, ◌≤◌, length, All}
 use Rattle.trees.specs.Decorated.{DecoratedTree}
+use Rattle.localisation.specs.ClassValue.{ends_at}
 use Rattle.tree_parts.specs.declared.parts.TreeParts.{TreeParts}
 
 -- the tree that the lists are of
@@ -22,3 +23,7 @@ pub record AreParts (p : TreeParts) : Type 0 where
   pub degree_each : length p.degrees.now ≡ length p.edges.now
   pub degrees_within : All (λ a. (1 ≤ a) × (a ≤ 10)) p.degrees.now
   pub marks_within : All (λ v. v < length p.colours.now) p.marks.now
+
+-- each vertex has an edge
+abbrev pub HasEnds : TreeParts → Type 0
+HasEnds p = (v : ℕ) → v < length p.colours.now → 1 ≤ length (ends_at (tree_of_parts p) v)

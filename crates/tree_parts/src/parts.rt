@@ -3,6 +3,8 @@
 ghost use Rattle.std.specs.Prelude.{◌≡◌, ◌<◌, ◌≤◌, ◌↔◌, IsTrue, All, count_by, length};
 ghost use Rattle.tree_parts.specs.Ends.{is_end};
 
+use crate::ends::Ends;
+
 /// The lists of a decorated tree, borrowed: its edges as pairs of vertices, the colours of its vertices, the degrees of
 /// its edges and the vertices of its marks.
 #[derive(Clone, Copy)]
@@ -23,7 +25,8 @@ pub struct ColouredEdge {
 
 impl TreeParts<'_> {
     ghost use Rattle.std.specs.Prelude.{◌≡◌, ◌<◌, ◌≤◌, ◌↔◌, ℕ, IsTrue, length, slice_index, slice_index_or, All};
-    ghost use Rattle.tree_parts.specs.Parts.{tree_of_parts, AreParts};
+    ghost use Rattle.tree_parts.specs.Parts.{tree_of_parts, AreParts, HasEnds};
+    ghost use Rattle.tree_parts.specs.Ends.{ends_of};
     ghost use Rattle.localisation.specs.ClassValue.{ends_at};
 
     /// The edge at a place below the number of edges.
@@ -58,6 +61,37 @@ impl TreeParts<'_> {
             && ends_within(self.edges, n)
             && self.degrees.iter().all(|a| 1 <= *a && *a <= 10)
             && self.marks.iter().all(|v| (*v as usize) < n)
+    }
+
+    /// Whether each vertex has an edge.
+    pub fn have_ends(&self) -> bool
+        requires { AreParts self.now }
+        ensures { IsTrue result ↔ HasEnds self.now }
+    {
+        for vertex in 0..self.colours.len() {
+            if self.valence(vertex as u8) == 0 {
+                return false;
+            }
+        }
+        true
+    }
+
+    /// The ends of edges at a vertex, in the order of the edges.
+    pub fn ends_at(&self, vertex: u8) -> Ends
+        requires { AreParts self.now }
+        ensures value { ends_of result ≡ ends_at (tree_of_parts self.now) vertex }
+        ensures colours_within { (n : ℕ) → All (λ c. c < n) self.now.colours.now → All (λ e. e.0 < n) result }
+    {
+        let mut ends = Ends::none();
+        for place in 0..self.edges.len() {
+            let (u, v) = self.edges[place];
+            if u == vertex {
+                ends.push(self.colours[v as usize], self.degrees[place]);
+            } else if v == vertex {
+                ends.push(self.colours[u as usize], self.degrees[place]);
+            }
+        }
+        ends
     }
 
     /// How many edges there are at a vertex.

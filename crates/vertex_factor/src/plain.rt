@@ -100,12 +100,13 @@ pub fn vertex(
     vertex_ratio(setup, c, ends, marks, modulus).residue(modulus)
 }
 
-/// The residues of the top and the bottom of the same factor, without a division.
+/// The residues of the top and the bottom of the same factor, without a division. A neighbour may have any colour at most
+/// the rank, and a degree may be any.
 pub fn vertex_ratio(setup: &Setup, c: u8, ends: &[(u8, u8)], marks: u8, modulus: &Modulus) -> Ratio
     requires c_within { c < length setup.now }
     requires ends_some { 1 ≤ length ends.now }
     requires ends_limited { length ends.now ≤ 10 }
-    requires ends_at { All (IsEndAt setup.now c) ends.now }
+    requires colours_within { All (λ e. e.0 < length setup.now) ends.now }
     requires marks_limited { marks ≤ 12 }
     ensures { IsRatioOf modulus.now (plain_vertex setup.now c (ends_of ends.now) marks) result }
 {
@@ -153,7 +154,7 @@ fn pair_ratio(setup: &Setup, c: u8, c1: u8, a1: u8, c2: u8, a2: u8, modulus: &Mo
 fn stable(setup: &Setup, c: u8, ends: &[(u8, u8)], marks: u8, modulus: &Modulus) -> Ratio
     requires c_within { c < length setup.now }
     requires ends_limited { length ends.now ≤ 10 }
-    requires ends_at { All (IsEndAt setup.now c) ends.now }
+    requires colours_within { All (λ e. e.0 < length setup.now) ends.now }
     requires ends_some { 1 ≤ length ends.now }
     requires stable { 3 ≤ length ends.now + marks }
     ensures { IsRatioOf modulus.now (stable_vertex setup.now c (ends_of ends.now) marks) result }

@@ -38,7 +38,8 @@ pub fn vertex_psi(
     vertex_psi_ratio(setup, c, ends, exponents, modulus).residue(modulus)
 }
 
-/// The residues of the top and the bottom of the same factor, without a division.
+/// The residues of the top and the bottom of the same factor, without a division. A neighbour may have any colour at most
+/// the rank, and a degree and an exponent may be any.
 pub fn vertex_psi_ratio(
     setup: &Setup,
     c: u8,
@@ -49,9 +50,8 @@ pub fn vertex_psi_ratio(
     requires c_within { c < length setup.now }
     requires ends_some { 1 ≤ length ends.now }
     requires ends_limited { length ends.now ≤ 10 }
-    requires ends_at { All (IsEndAt setup.now c) ends.now }
+    requires colours_within { All (λ e. e.0 < length setup.now) ends.now }
     requires marks_limited { length exponents.now ≤ 12 }
-    requires exponents_limited { All (λ k. k ≤ 151) exponents.now }
     ensures { IsRatioOf modulus.now (vertex_fraction setup.now c (ends_of ends.now) exponents.now) result }
 {
     let exponent = sum(exponents);
@@ -94,7 +94,7 @@ fn stable_psi(setup: &Setup, c: u8, ends: &[(u8, u8)], exponents: &[u8], modulus
     requires c_within { c < length setup.now }
     requires ends_some { 1 ≤ length ends.now }
     requires ends_limited { length ends.now ≤ 10 }
-    requires ends_at { All (IsEndAt setup.now c) ends.now }
+    requires colours_within { All (λ e. e.0 < length setup.now) ends.now }
     requires marks_limited { length exponents.now ≤ 12 }
     requires stable { 3 ≤ length ends.now + length exponents.now }
     requires within { sum exponents.now ≤ length ends.now + length exponents.now - 3 }

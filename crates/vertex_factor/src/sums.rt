@@ -4,7 +4,7 @@ ghost use Rattle.std.specs.Prelude.{◌≡◌, ◌<◌, length, All, List, ◌�
 ghost use Rattle.arithmetic.specs.Numbers.{Leaves};
 ghost use Rattle.localisation.specs.Weights.{weight};
 ghost use Rattle.localisation.specs.VertexFraction.{End};
-ghost use Rattle.vertex_factor.specs.Ends.{end, ends_of, IsEndAt};
+ghost use Rattle.vertex_factor.specs.Ends.{end, ends_of};
 ghost use Rattle.vertex_factor.specs.EndSums.{AreSums};
 
 use residue::{Modulus, Setup};
@@ -23,7 +23,7 @@ pub(crate) struct EndSums {
 /// The residues over all ends at a vertex of colour `c`.
 pub(crate) fn sums_over(setup: &Setup, c: u8, ends: &[(u8, u8)], modulus: &Modulus) -> EndSums
     requires c_within { c < length setup.now }
-    requires ends_at { All (IsEndAt setup.now c) ends.now }
+    requires colours_within { All (λ e. e.0 < length setup.now) ends.now }
     ensures { AreSums modulus.now setup.now c (ends_of ends.now) result }
 {
     let mut sums = EndSums {

@@ -1,0 +1,3 @@
+pub mod ExponentBounds
+pub mod MarkLists
+pub mod TermSums

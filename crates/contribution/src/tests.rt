@@ -1,0 +1,170 @@
+//! Contributions by exact fractions, whose tops and bottoms were computed as whole numbers of any size.
+
+use super::*;
+use residue::{Class, Modulus, Power, Powers, Setup, Term, Terms};
+use std::alloc::Global;
+use std::test::Fail;
+use tree_parts::TreeParts;
+
+/// 2^62 - 1 = 3 * 715827883 * 2147483647, the greatest modulus.
+const GREATEST: u64 = 4_611_686_018_427_387_903;
+
+/// A prime near 2^62.
+const PRIME: u64 = 4_611_686_018_427_387_847;
+
+const LINE: TreeParts<'static> = TreeParts {
+    edges: &[(0, 1)],
+    colours: &[1, 0],
+    degrees: &[2],
+    marks: &[],
+};
+
+const MARKED_LINE: TreeParts<'static> = TreeParts {
+    edges: &[(0, 1)],
+    colours: &[0, 1],
+    degrees: &[2],
+    marks: &[1],
+};
+
+const PATH: TreeParts<'static> = TreeParts {
+    edges: &[(0, 1), (0, 2)],
+    colours: &[0, 1, 1],
+    degrees: &[1, 1],
+    marks: &[],
+};
+
+const OTHER_PATH: TreeParts<'static> = TreeParts {
+    edges: &[(0, 1), (0, 2)],
+    colours: &[1, 0, 0],
+    degrees: &[1, 1],
+    marks: &[],
+};
+
+const MARKED_PATH: TreeParts<'static> = TreeParts {
+    edges: &[(0, 1), (0, 2)],
+    colours: &[1, 0, 0],
+    degrees: &[1, 1],
+    marks: &[2, 2, 2, 0],
+};
+
+const STAR: TreeParts<'static> = TreeParts {
+    edges: &[(0, 3), (1, 3), (2, 3), (3, 4)],
+    colours: &[0, 1, 2, 3, 4],
+    degrees: &[1, 2, 3, 1],
+    marks: &[3, 3, 0, 4],
+};
+
+fn power(class: Class, power: u8) -> Power {
+    Power { class, power }
+}
+
+fn term(alloc: Global, coefficient: i64, powers: &[Power]) -> Result<Term, Fail> {
+    let classes = Powers::of(Vec::from_slice(alloc, powers)?);
+    Ok(Term {
+        coefficient,
+        classes,
+    })
+}
+
+fn residue_at(
+    rt: &impl std::process::Abort,
+    weights: &[i64],
+    terms: &Terms,
+    parts: &TreeParts,
+    modulus: u64,
+) -> Result<Option<u64>, Fail> {
+    let setup = Setup::new(weights)?;
+    assert!(rt; parts.are_sound() && parts.marks.len() <= 12);
+    assert!(rt; parts.have_ends());
+    assert!(rt; parts.colours.iter().all(|c| *c <= setup.rank()));
+    assert!(rt; are_terms_for(terms, parts.marks.len() as u8));
+    Ok(contribution(&setup, terms, parts, &Modulus::new(modulus)?).ok())
+}
+
+#[test]
+fn one_term_without_psi_classes(rt: HostRuntime) -> Result<(), Fail> {
+    let two = [1, 3];
+    let five = [1, 10, 100, 1000, 10_000];
+    let r1 = power(Class::R1 { k: 1 }, 2);
+    let quintic = power(Class::Hypersurface { b: 5 }, 1);
+    for (weights, coefficient, class, parts, modulus, residue) in [
+        // -1/4 and 1/48 by hand, and 9/48 where the vertex in the middle has the colour 1.
+        (two.as_slice(), 1, r1, LINE, 101, Some(25)),
+        (two.as_slice(), 1, r1, LINE, 1001, Some(250)),
+        (two.as_slice(), 1, r1, PATH, 101, Some(40)),
+        (two.as_slice(), 1, r1, PATH, 1001, Some(146)),
+        (two.as_slice(), 1, r1, OTHER_PATH, 101, Some(57)),
+        (five.as_slice(), 7, quintic, STAR, 9, None),
+        (five.as_slice(), 7, quintic, STAR, GREATEST, None),
+        // The needed bottom counts even where the coefficient is 0.
+        ([1, 4].as_slice(), 0, r1, PATH, 9, None),
+    ] {
+        let alloc = rt.alloc();
+        let terms = Terms::of(vec![in alloc; term(alloc, coefficient, &[class])?]?);
+        let found = residue_at(&rt, weights, &terms, &parts, modulus)?;
+        assert_eq!(rt; found, residue, "{class:?} modulo {modulus}");
+    }
+    Ok(())
+}
+
+#[test]
+fn several_terms_and_psi_classes(rt: HostRuntime) -> Result<(), Fail> {
+    let alloc = rt.alloc();
+    let two = [1, 3];
+    let five = [1, 10, 100, 1000, 10_000];
+    let psi = |mark: u8| Class::Psi { mark };
+    let one = Terms::of(vec![in alloc; term(alloc, 1, &[power(psi(1), 1)])?]?);
+    assert_eq!(rt;
+        residue_at(&rt, &two, &one, &MARKED_PATH, 101)?,
+        Some(10),
+        "one psi class"
+    );
+    let cube = Terms::of(vec![in alloc; term(alloc, 1, &[power(psi(1), 3)])?]?);
+    assert_eq!(rt;
+        residue_at(&rt, &two, &cube, &MARKED_LINE, 101)?,
+        Some(19),
+        "at an end"
+    );
+    let both = Terms::of(vec![in alloc; term(alloc, 1, &[power(psi(1), 1), power(psi(2), 1)])?]?);
+    assert_eq!(rt;
+        residue_at(&rt, &two, &both, &MARKED_PATH, 101)?,
+        Some(0),
+        "above the dimension"
+    );
+    let sum = Terms::of(vec![in alloc;
+        term(
+            alloc,
+            2,
+            &[power(psi(1), 1), power(Class::Mark { mark: 2 }, 2)]
+        )?,
+        term(
+            alloc,
+            -5,
+            &[power(psi(4), 1), power(Class::Incidence { q: 2 }, 1)]
+        )?,
+    ]?);
+    let found = residue_at(&rt, &two, &sum, &MARKED_PATH, PRIME)?;
+    assert_eq!(rt; found, Some(1_969_574_237_036_696_893), "two terms");
+    let large = Terms::of(vec![in alloc;
+        term(alloc, 7, &[power(Class::Hypersurface { b: 5 }, 1)])?,
+        term(
+            alloc,
+            -1_000_000_000,
+            &[
+                power(Class::Mark { mark: 4 }, 3),
+                power(psi(1), 1),
+                power(psi(2), 1),
+                power(Class::Contact, 2)
+            ]
+        )?,
+    ]?);
+    let found = residue_at(&rt, &five, &large, &STAR, PRIME)?;
+    assert_eq!(rt; found, Some(2_244_110_046_759_540_260), "a star");
+    let none = Terms::of(Vec::new(alloc));
+    assert_eq!(rt;
+        residue_at(&rt, &five, &none, &STAR, PRIME)?,
+        Some(0),
+        "no term"
+    );
+    Ok(())
+}
