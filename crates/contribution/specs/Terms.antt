@@ -1,7 +1,8 @@
 -- What a tree and a term must be for a contribution, and the parts of the contribution that loops walk through.
-use Rattle.std.specs.Prelude.{ℕ, ◌≤◌, List, map, All, ℤ}
+use Rattle.std.specs.Prelude.{ℕ, ◌≤◌, List, length, map, sum_by, All, ℤ}
 use Rattle.arithmetic.specs.Fractions.{Fraction, sum_of_fractions}
 use Rattle.trees.specs.Decorated.{DecoratedTree}
+use Rattle.residue.specs.declared.class.Power.{Power}
 use Rattle.residue.specs.declared.class.Term.{Term}
 use Rattle.localisation.specs.VertexFraction.{vertex_fraction}
 use Rattle.localisation.specs.ClassValue.{colour_of, ends_at, exponents_at, exponent_of}
@@ -20,3 +21,9 @@ vertex_at ws term g v = vertex_fraction ws (colour_of g v) (ends_at g v) (expone
 -- the sum over the terms
 abbrev pub sum_of_terms : List ℤ → DecoratedTree → List Term → Fraction
 sum_of_terms ws g terms = sum_of_fractions (map (term_factor ws g) terms)
+
+-- at most 16 classes, each within its limits, whose powers together are at most 151
+pub record IsBoundedTerm (m : ℕ) (term : Term) : Type 0 where
+  pub few : length term.classes ≤ 16
+  pub powers : sum_by (λ (p : Power). p.power) term.classes ≤ 151
+  pub classes : All (IsPowerFor m) term.classes
