@@ -1,2 +1,3 @@
+pub mod DecoratedParts
 pub mod Edgewise
 pub mod EndLists
