@@ -1,9 +1,9 @@
 -- Congruences modulo a product of coprime numbers, and residues modulo a divisor.
-use Rattle.std.proofs.Common.{◌≡◌, ℕ, zero, suc, ◌+◌, ◌-◌, ◌*◌, ◌/◌, ◌%◌, ◌<◌, ◌≤◌, ℤ, pos, negsuc, refl, sym, ap, ◌∙◌, arith, mul-one, mul_comm, List, [], ◌∷◌, length, slice_index}
+use Rattle.std.proofs.Common.{◌≡◌, ℕ, zero, suc, ◌+◌, ◌-◌, ◌*◌, ◌/◌, ◌%◌, ◌<◌, ℤ, pos, negsuc, refl, sym, ap, ◌∙◌, arith, List, [], ◌∷◌, length, slice_index}
 use Rattle.std.proofs.Math.Nat.{div-add-mod, mod-lt, mul-pos}
 use Rattle.arithmetic.specs.Numbers.{gcd, reduce}
-use Rattle.arithmetic.proofs.Congruences.{Same, same_refl, same_of_eq, same_sym, same_trans, same_add, same_mul, same_mod, same_multiple, same_cancel}
-use Rattle.arithmetic.proofs.Divisors.{IsUnit, IsUnit-from_gcd, gcd-from_IsUnit, gcd_comm, gcd-mod, gcd-zero}
+use Rattle.arithmetic.proofs.Congruences.{Same, same_refl, same_of_eq, same_sym, same_trans, same_mul, same_multiple, same_cancel}
+use Rattle.arithmetic.proofs.Divisors.{IsUnit-from_gcd, gcd-from_IsUnit, gcd_comm, gcd-mod, gcd-zero}
 use Rattle.arithmetic.proofs.NumberLaws.{reduce-pos, reduce-negsuc}
 use Rattle.arithmetic.proofs.Residues.{IsUnit-mul, unit_one}
 use Rattle.recover_fraction.specs.CommonResidues.{product_of}
@@ -24,7 +24,7 @@ coprime_product a b (suc (suc m)) e f =
     let some : 0 < suc (suc m) = omega arith in
     sym (gcd-mod_left (a * b) (suc (suc m)))
     ∙ gcd-from_IsUnit (suc (suc m)) ((a * b) % suc (suc m)) (omega arith)
-      (IsUnit-mul (suc (suc m)) a b (IsUnit-from_gcd (suc (suc m)) a some e) (IsUnit-from_gcd (suc (suc m)) b some f))
+    (IsUnit-mul (suc (suc m)) a b (IsUnit-from_gcd (suc (suc m)) a some e) (IsUnit-from_gcd (suc (suc m)) b some f))
 
 -- a unit is cancelled from both sides
 pub cancel_unit : (m p s t : ℕ) → 0 < m → gcd p m ≡ 1 → Same m (p * s) (p * t) → Same m s t
@@ -46,8 +46,8 @@ cancel_unit m p s t h e k =
 pub same_product : (p m u v : ℕ) → 0 < m → gcd p m ≡ 1 → Same p u v → Same m u v → Same (p * m) u v
 same_product p m u v h e f g =
     let quotients : Same m (u / p) (v / p) =
-        cancel_unit m p (u / p) (v / p) h e
-        (same_cancel (u % p) (same_trans (same_of_eq m _ _ (div-add-mod u p)) (same_trans g (same_of_eq m _ _ (turned v p (v / p) (v % p) (u % p) (div-add-mod v p) f.is))))) in
+    cancel_unit m p (u / p) (v / p) h e
+    (same_cancel (u % p) (same_trans (same_of_eq m _ _ (div-add-mod u p)) (same_trans g (same_of_eq m _ _ (turned v p (v / p) (v % p) (u % p) (div-add-mod v p) f.is))))) in
     same_trans (reduced u) (same_trans (same_of_eq (p * m) _ _ (parts (u / p % m) (v / p % m) (u % p) (v % p) quotients.is f.is)) (same_sym (reduced v)))
   where
     turned : (v p q r s : ℕ) → p * q + r ≡ v → s ≡ r → v ≡ p * q + s
@@ -77,7 +77,7 @@ reduce_of_multiple m k (pos n) h l = ap (λ x. x % m) (reduce-pos (m * k) n) ∙
 reduce_of_multiple m k (negsuc n) h l =
     ap (λ x. x % m) (reduce-negsuc (m * k) n)
     ∙ completing m n (m * k - 1 - n % (m * k)) h
-      (same_trans (same_of_eq m _ _ (whole m k (m * k) n (n / (m * k)) (n % (m * k)) refl (div-add-mod n (m * k)) (mod-lt n l))) (same_multiple m 0 (k * (n / (m * k) + 1))))
+    (same_trans (same_of_eq m _ _ (whole m k (m * k) n (n / (m * k)) (n % (m * k)) refl (div-add-mod n (m * k)) (mod-lt n l))) (same_multiple m 0 (k * (n / (m * k) + 1))))
     ∙ sym (reduce-negsuc m n)
   where
     whole : (m k w n q r : ℕ) → w ≡ m * k → w * q + r ≡ n → r < w → suc n + (w - 1 - r) ≡ 0 + m * (k * (q + 1))

@@ -1,5 +1,5 @@
 -- The only fraction within bounds that has a residue is the one at which Euclid's algorithm first falls to the bound.
-use Rattle.std.proofs.Common.{◌≡◌, ℕ, zero, suc, ◌+◌, ◌*◌, ◌<◌, ◌≤◌, refl, sym, ap, ◌∙◌, arith, mul-le-mul, zero-lt-suc}
+use Rattle.std.proofs.Common.{◌≡◌, ℕ, zero, suc, ◌+◌, ◌*◌, ◌<◌, ◌≤◌, ap, arith, mul-le-mul, zero-lt-suc}
 use Rattle.std.proofs.Math.Nat.{eq_of_mul-eq-mul_right, le-mul_of_pos_right}
 
 -- a step of Euclid's algorithm on the modulus m, at the bounds a and b: the last remainder above a, the first that is not, and the sizes of their factors

@@ -1,15 +1,14 @@
 -- Garner's method: after each modulus, the number so far is the one below the product so far with the residues so far.
-use Rattle.std.proofs.Common.{◌≡◌, ℕ, zero, suc, ◌+◌, ◌-◌, ◌*◌, ◌/◌, ◌%◌, ◌<◌, ◌≤◌, ◌↔◌, ◌^◌, ℤ, pos, ◌*ℤ◌, ◌-ℤ◌, nat_abs, refl, sym, ap, subst, ◌∙◌, arith, List, [], ◌∷◌, length, slice_index, drop, drop-cons, below_more, add-one, mul-one, ⊎_elim, mod-eq_of_lt}
+use Rattle.std.proofs.Common.{◌≡◌, ℕ, zero, suc, ◌+◌, ◌-◌, ◌*◌, ◌/◌, ◌%◌, ◌<◌, ◌≤◌, ◌↔◌, ◌^◌, ℤ, pos, ◌*ℤ◌, ◌-ℤ◌, nat_abs, refl, sym, ap, subst, ◌∙◌, arith, List, [], ◌∷◌, length, slice_index, drop, drop-cons, below_more, add-one, mod-eq_of_lt}
 use Rattle.std.specs.Int.{◌∣◌}
 use Rattle.std.proofs.Math.Nat.{mod-lt, div-add-mod, mul-mod_left, mul-le-mul_left, zero-mod}
 use Rattle.arithmetic.specs.Numbers.{gcd, reduce}
-use Rattle.arithmetic.proofs.Congruences.{Same, same_refl, same_of_eq, same_sym, same_trans, same_add, same_mul, same_mod, same_multiple, same_cancel}
-use Rattle.arithmetic.proofs.Divisors.{gcd_comm}
+use Rattle.arithmetic.proofs.Congruences.{Same, same_refl, same_of_eq, same_sym, same_trans, same_add, same_mul, same_mod, same_multiple}
 use Rattle.arithmetic.proofs.Residues.{unit_one}
 use Rattle.arithmetic.proofs.NumberLaws.{same_from_divides, divides_from_same, reduce-pos, reduce_below}
 use Rattle.localisation.specs.Agreement.{Agrees}
 use Rattle.recover_fraction.specs.Agreement.{AgreesModulo, KeepsAgreement}
-use Rattle.recover_fraction.specs.CommonResidues.{product_of, ArePairwiseCoprime, AreResiduesFor, HasResidues, IsCombination}
+use Rattle.recover_fraction.specs.CommonResidues.{product_of, ArePairwiseCoprime, AreResiduesFor, IsCombination}
 use Rattle.recover_fraction.proofs.CoprimeProducts.{coprime_product, same_product, same_of_multiple, reduce_of_multiple, product_positive}
 
 -- the number so far and the product so far, after the moduli below a place
@@ -161,10 +160,10 @@ module _ (ms xs : List ℕ) (number : ℕ) (r : IsSoFar ms xs (length ms) number
   pub divides_whole : ((i : ℕ) → i < length ms → slice_index ms i ∣ nat_abs (pos q *ℤ pos (slice_index xs i) -ℤ p)) → product_of ms ∣ nat_abs (pos q *ℤ pos number -ℤ p)
   divides_whole d =
       let same : Same (product_of ms) (q * number) (reduce (product_of ms) p) =
-          r.decides _ _ (λ i l. record {
-            is = (products i l).is ∙ sym (reduce-pos (slice_index ms i) (q * slice_index xs i))
-                ∙ same_from_divides (slice_index ms i) (pos q *ℤ pos (slice_index xs i)) p (positive_at ms xs h i l) (d i l) ∙ sym (reduced_at i l);
-          }) in
+      r.decides _ _ (λ i l. record {
+        is = (products i l).is ∙ sym (reduce-pos (slice_index ms i) (q * slice_index xs i))
+            ∙ same_from_divides (slice_index ms i) (pos q *ℤ pos (slice_index xs i)) p (positive_at ms xs h i l) (d i l) ∙ sym (reduced_at i l);
+      }) in
       divides_from_same (product_of ms) (pos q *ℤ pos number) p some (reduce-pos (product_of ms) (q * number) ∙ same.is ∙ mod-eq_of_lt (reduce_below (product_of ms) p some))
 
   pub divides_each : product_of ms ∣ nat_abs (pos q *ℤ pos number -ℤ p) → (i : ℕ) → i < length ms → slice_index ms i ∣ nat_abs (pos q *ℤ pos (slice_index xs i) -ℤ p)

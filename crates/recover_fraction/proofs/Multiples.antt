@@ -1,5 +1,5 @@
 -- Numbers that are congruent differ by a multiple of the modulus.
-use Rattle.std.proofs.Common.{◌≡◌, ℕ, suc, ◌+◌, ◌-◌, ◌*◌, ◌/◌, ◌%◌, ◌<◌, ◌≤◌, ◌⊎◌, inl, inr, sym, ◌∙◌, arith, ⊎_elim}
+use Rattle.std.proofs.Common.{◌≡◌, ℕ, suc, ◌+◌, ◌-◌, ◌*◌, ◌/◌, ◌%◌, ◌⊎◌, inl, inr, sym, ◌∙◌, arith, ⊎_elim}
 use Rattle.std.proofs.Math.Nat.{div-add-mod, zero-mod}
 use Rattle.std.proofs.lemmas.Bool.{cases_lt}
 use Rattle.arithmetic.proofs.Congruences.{Same}

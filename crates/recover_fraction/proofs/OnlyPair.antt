@@ -1,9 +1,9 @@
 -- Where Euclid's algorithm on m and x first falls to the bound, its pair is the only one that can agree.
-use Rattle.std.proofs.Common.{◌≡◌, ℕ, zero, suc, ◌+◌, ◌*◌, ◌<◌, ◌≤◌, ◌⊎◌, inl, inr, Bool, true, false, not, ℤ, pos, negsuc, nat_abs, refl, sym, ap, ap₂, subst, ◌∙◌, arith, ⊎_elim, mul-one, add-zero}
+use Rattle.std.proofs.Common.{◌≡◌, ℕ, zero, suc, ◌+◌, ◌*◌, ◌<◌, ◌≤◌, ◌⊎◌, inl, inr, Bool, true, false, not, ℤ, pos, negsuc, nat_abs, refl, sym, ap, ap₂, subst, ◌∙◌, arith, mul-one}
 use Rattle.std.specs.Int.{◌∣◌}
 use Rattle.std.proofs.Math.Nat.{dvd-mul_left, eq-one_of_dvd-one}
 use Rattle.arithmetic.specs.Numbers.{gcd}
-use Rattle.arithmetic.proofs.Congruences.{Same, same_refl, same_of_eq, same_sym, same_trans, same_add}
+use Rattle.arithmetic.proofs.Congruences.{Same, same_refl, same_sym, same_trans, same_add}
 use Rattle.arithmetic.proofs.Divisors.{gcd_is}
 use Rattle.recover_fraction.specs.Agreement.{AgreesModulo}
 use Rattle.recover_fraction.proofs.Multiples.{multiple_of, apart_by}

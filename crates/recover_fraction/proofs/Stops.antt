@@ -1,7 +1,7 @@
 -- The algorithm of Euclid on m and x, from its start to where it first falls to the bound.
-use Rattle.std.proofs.Common.{◌≡◌, ℕ, zero, suc, ◌+◌, ◌*◌, ◌/◌, ◌%◌, ◌<◌, ◌≤◌, Bool, true, false, not, refl, sym, ap, ◌∙◌, arith}
+use Rattle.std.proofs.Common.{◌≡◌, ℕ, zero, suc, ◌+◌, ◌*◌, ◌/◌, ◌%◌, ◌<◌, ◌≤◌, Bool, true, false, not, ap, arith}
 use Rattle.std.proofs.Math.Nat.{div-add-mod, mod-lt, le-mul_of_pos_right}
-use Rattle.arithmetic.proofs.Congruences.{Same, same_refl, same_of_eq, same_trans, same_multiple}
+use Rattle.arithmetic.proofs.Congruences.{same_of_eq, same_trans, same_multiple}
 use Rattle.recover_fraction.proofs.Signs.{IsTimes, plus, minus, times_step}
 
 -- what two remainders in a row are

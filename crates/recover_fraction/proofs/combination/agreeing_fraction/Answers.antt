@@ -1,4 +1,4 @@
-use Rattle.std.proofs.Common.{◌≡◌, ℕ, ℤ, ◌↔◌, Option, Some, None, IfSome, IsNone, List, sym, subst}
+use Rattle.std.proofs.Common.{◌≡◌, ℕ, ℤ, Option, Some, None, IfSome, List, sym, subst}
 use Rattle.localisation.specs.Agreement.{Agrees}
 use Rattle.recover_fraction.specs.declared.recovery.Fraction.{Fraction}
 use Rattle.recover_fraction.specs.Agreement.{AgreesModulo, KeepsAgreement}
@@ -40,6 +40,6 @@ returns-clause-none c = (
   λ none.
       c.recover.ensures.none.1
       (λ p q g.
-          none p q
-          (out c.args.moduli.now c.args.residues.now c.args.a c.args.b c.garner-all.result.number c.garner-all.result.product c.garner-all.ensures.product c.garner-all.ensures.agreement p q g)),
+      none p q
+      (out c.args.moduli.now c.args.residues.now c.args.a c.args.b c.garner-all.result.number c.garner-all.result.product c.garner-all.ensures.product c.garner-all.ensures.agreement p q g)),
 )

@@ -1,4 +1,4 @@
-use Rattle.std.proofs.Common.{rules, ◌≡◌, ◌≢◌, ℕ, ◌*◌, ◌%◌, ◌<◌, refl, sym, ◌∙◌, Option, Some, None, IsSome, IsNone, IfSome, ap, subst}
+use Rattle.std.proofs.Common.{rules, ◌≡◌, ℕ, ◌*◌, ◌%◌, ◌<◌, refl, ◌∙◌, Option, Some, None, IsSome, IsNone, IfSome, ap, subst}
 use Rattle.arithmetic.specs.Numbers.{gcd}
 use Rattle.recover_fraction.proofs.CoprimeProducts.{gcd-mod_left}
 use Rattle.recover_fraction.proofs.Garner.{digit_is}

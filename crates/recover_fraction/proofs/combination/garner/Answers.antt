@@ -1,8 +1,7 @@
-use Rattle.std.proofs.Common.{◌≡◌, ℕ, ◌+◌, ◌*◌, ◌%◌, ◌<◌, ◌≤◌, ◌^◌, sym, subst, ◌∙◌, arith, slice_index}
+use Rattle.std.proofs.Common.{◌≡◌, ◌+◌, ◌*◌, ◌%◌, ◌<◌, ◌^◌, sym, subst, ◌∙◌, arith, slice_index}
 use Rattle.std.proofs.lemmas.Option.{get_or_from_slice_get}
 use Rattle.arithmetic.specs.Numbers.{gcd}
-use Rattle.recover_fraction.specs.CommonResidues.{product_of}
-use Rattle.recover_fraction.proofs.Garner.{IsSoFar, start, below_next, within_limit, next, whole_product, ended, combined, agreement}
+use Rattle.recover_fraction.proofs.Garner.{start, below_next, within_limit, next, whole_product, ended, combined, agreement}
 use Rattle.recover_fraction.proofs.combination.garner.Goals as goal
 
 pub loop-place-init : goal.loop-place-init
@@ -36,7 +35,7 @@ pub overflow_mul-product : goal.overflow_mul-product
 overflow_mul-product c =
     let at = get_or_from_slice_get c.args.moduli.now c.loop-place.place c.get-modulus.result.now 0 c.get-modulus.ensures in
     let most : c.loop-place.product * c.get.result < 2 ^ 126 =
-        within_limit _ _ _ _ _ _ c.loop-place.invariant c.requires.residues (omega arith) (at ∙ sym c.get.ensures.value) c.requires.product in
+    within_limit _ _ _ _ _ _ c.loop-place.invariant c.requires.residues (omega arith) (at ∙ sym c.get.ensures.value) c.requires.product in
     omega (arith, most)
 
 pub loop-place-preserved : goal.loop-place-preserved

@@ -1,10 +1,10 @@
-use Rattle.std.proofs.Common.{◌≡◌, ℕ, ◌<◌, ◌≤◌, ◌^◌, rules, ℤ, Bool, true, false, if◌then◌else◌, pos, neg_ℤ, refl, sym, subst, ◌∙◌, arith, to_z, of_z, w64, SFits}
+use Rattle.std.proofs.Common.{◌≡◌, ℕ, ◌<◌, ◌^◌, rules, ℤ, Bool, if◌then◌else◌, pos, neg_ℤ, refl, sym, subst, ◌∙◌, arith, to_z, of_z, w64}
 use Rattle.std.proofs.lemmas.Int.{to_z-of_z}
 use Rattle.std.specs.Int.Signed.{mag}
 use Rattle.recover_fraction.specs.Agreement.{AgreesModulo}
 use Rattle.recover_fraction.proofs.Signs.{signed, signed_is}
-use Rattle.recover_fraction.proofs.OnlyPair.{IsStop, stop, only, agrees, needed}
-use Rattle.recover_fraction.proofs.Stops.{IsRun, first_run, next_run}
+use Rattle.recover_fraction.proofs.OnlyPair.{stop, only, agrees, needed}
+use Rattle.recover_fraction.proofs.Stops.{first_run, next_run}
 use Rattle.recover_fraction.proofs.recovery.recover.Goals as goal
 use Rattle.recover_fraction.proofs.recovery.recover.Goals.{else-of_smaller-b-via-then-of_smaller-b+else-coprime, else-of_smaller-b-via-else-of_smaller-b}
 
@@ -44,8 +44,8 @@ returns-else-of_smaller-b-clause-none c =
       λ _ p q g.
           let parts = needed c.args.m c.args.x c.args.a c.args.b _ _ _ _ _ p q s g in
           elim c.else-of_smaller-b.branch [
-            else-of_smaller-b-via-then-of_smaller-b+else-coprime w ↦ cc (w.coprime.ensures.1 parts.1)
-          | else-of_smaller-b-via-else-of_smaller-b w ↦ omega (arith, parts.0, w.if-of_smaller-b.false)
+            | else-of_smaller-b-via-then-of_smaller-b+else-coprime w ↦ cc (w.coprime.ensures.1 parts.1)
+            | else-of_smaller-b-via-else-of_smaller-b w ↦ omega (arith, parts.0, w.if-of_smaller-b.false)
           ],
       λ _. refl,
     )
