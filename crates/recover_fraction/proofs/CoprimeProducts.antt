@@ -6,7 +6,7 @@ use Rattle.arithmetic.proofs.Congruences.{Same, same_refl, same_of_eq, same_sym,
 use Rattle.arithmetic.proofs.Divisors.{IsUnit-from_gcd, gcd-from_IsUnit, gcd_comm, gcd-mod, gcd-zero}
 use Rattle.arithmetic.proofs.NumberLaws.{reduce-pos, reduce-negsuc}
 use Rattle.arithmetic.proofs.Residues.{IsUnit-mul, unit_one}
-use Rattle.recover_fraction.specs.CommonResidues.{product_of}
+use Rattle.trees.specs.Numbering.{product_of}
 use Rattle.recover_fraction.proofs.Signs.{completing}
 
 pub gcd-mod_left : (a m : ℕ) → gcd (a % m) m ≡ gcd a m

@@ -8,7 +8,8 @@ use Rattle.arithmetic.proofs.Residues.{unit_one}
 use Rattle.arithmetic.proofs.NumberLaws.{same_from_divides, divides_from_same, reduce-pos, reduce_below}
 use Rattle.localisation.specs.Agreement.{Agrees}
 use Rattle.recover_fraction.specs.Agreement.{AgreesModulo, KeepsAgreement}
-use Rattle.recover_fraction.specs.CommonResidues.{product_of, ArePairwiseCoprime, AreResiduesFor, IsCombination}
+use Rattle.trees.specs.Numbering.{product_of}
+use Rattle.recover_fraction.specs.CommonResidues.{ArePairwiseCoprime, AreResiduesFor, IsCombination}
 use Rattle.recover_fraction.proofs.CoprimeProducts.{coprime_product, same_product, same_of_multiple, reduce_of_multiple, product_positive}
 
 -- the number so far and the product so far, after the moduli below a place

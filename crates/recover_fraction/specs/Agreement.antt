@@ -3,7 +3,7 @@ use Rattle.std.specs.Prelude.{◌≡◌, ℕ, ◌≤◌, ◌↔◌, List, ℤ, p
 use Rattle.std.specs.Int.{◌∣◌}
 use Rattle.arithmetic.specs.Numbers.{gcd}
 use Rattle.localisation.specs.Agreement.{Agrees}
-use Rattle.recover_fraction.specs.CommonResidues.{product_of}
+use Rattle.trees.specs.Numbering.{product_of}
 
 -- the pair of a top and a bottom is within the bounds, in lowest terms, and has the residue x modulo m
 pub record AgreesModulo (m x top_bound bottom_bound : ℕ) (top : ℤ) (bottom : ℕ) : Type 0 where

@@ -1,11 +1,7 @@
 -- Numbers with given residues modulo several moduli.
-use Rattle.std.specs.Prelude.{◌≡◌, ℕ, ◌*◌, ◌%◌, ◌<◌, List, [], ◌∷◌, length, slice_index}
+use Rattle.std.specs.Prelude.{◌≡◌, ℕ, ◌%◌, ◌<◌, List, length, slice_index}
 use Rattle.arithmetic.specs.Numbers.{gcd}
-
--- the product of the moduli
-abbrev pub product_of : List ℕ → ℕ
-product_of [] = 1
-product_of (m ∷ ms) = m * product_of ms
+use Rattle.trees.specs.Numbering.{product_of}
 
 -- only 1 divides two of the moduli
 abbrev pub ArePairwiseCoprime : List ℕ → Type 0

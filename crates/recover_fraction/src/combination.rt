@@ -4,7 +4,8 @@ ghost use Rattle.std.specs.Prelude.{◌≡◌, ℕ, ◌+◌, ◌*◌, ◌%◌, �
 ghost use Rattle.arithmetic.specs.Numbers.{gcd};
 ghost use Rattle.localisation.specs.Agreement.{Agrees};
 ghost use Rattle.recover_fraction.specs.Agreement.{KeepsAgreement};
-ghost use Rattle.recover_fraction.specs.CommonResidues.{product_of, ArePairwiseCoprime, AreResiduesFor, IsCombination};
+ghost use Rattle.trees.specs.Numbering.{product_of};
+ghost use Rattle.recover_fraction.specs.CommonResidues.{ArePairwiseCoprime, AreResiduesFor, IsCombination};
 
 use crate::recovery::{Fraction, recover};
 use residue::{Moduli, Modulus, Residues};

@@ -2,7 +2,7 @@ use Rattle.std.proofs.Common.{◌≡◌, ℕ, ℤ, Option, Some, None, IfSome, L
 use Rattle.localisation.specs.Agreement.{Agrees}
 use Rattle.recover_fraction.specs.declared.recovery.Fraction.{Fraction}
 use Rattle.recover_fraction.specs.Agreement.{AgreesModulo, KeepsAgreement}
-use Rattle.recover_fraction.specs.CommonResidues.{product_of}
+use Rattle.trees.specs.Numbering.{product_of}
 use Rattle.recover_fraction.proofs.combination.agreeing_fraction.Goals as goal
 
 -- one modulus that is the product stands for all moduli
