@@ -1,0 +1,4 @@
+pub mod Shapes
+pub mod NumbersFields
+pub mod ShapeFields
+pub mod Trees

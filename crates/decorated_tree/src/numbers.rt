@@ -1,0 +1,71 @@
+//! Short lists of numbers in fixed arrays.
+
+ghost use Rattle.std.specs.Prelude.{◌≡◌, ◌+◌, ◌<◌, ◌≤◌, [], ◌∷◌, ◌++◌, length, replicate};
+
+use std::marker::Model;
+
+/// The most numbers of a list, which is the most digits of a number of a tree: 9 letters, 11 colours, a rank, 12 marks.
+pub(crate) const MOST: usize = 33;
+
+/// At most 33 numbers.
+#[derive(Clone, Copy, Debug, PartialEq, Eq)]
+pub(crate) struct Numbers {
+    items: [u64; MOST],
+    count: usize,
+}
+
+impl Model for Numbers {
+    ghost use Rattle.std.specs.Prelude.{ℕ, List, take};
+    ghost use Rattle.prufer.specs.Padding.{IsPadded};
+
+    ghost Value = { List ℕ };
+
+    ghost use Rattle.decorated_tree.specs.NumbersFields.{fields_of, fields_of-take};
+
+    ghost view = { λ l. take l.count l.items };
+
+    ghost invariant = { λ l. IsPadded 0 33 l.count l.items };
+
+    ghost inverse = { fields_of };
+
+    ghost inverse_ok = { fields_of-take };
+}
+
+impl Numbers {
+    /// No numbers.
+    pub(crate) fn empty() -> Self
+        ensures { result ≡ [] }
+    {
+        Numbers {
+            items: [0; MOST],
+            count: 0,
+        }
+    }
+
+    /// The numbers.
+    pub(crate) fn as_slice(&self) -> &[u64]
+        ensures value { result.now ≡ self.now }
+        ensures limited { length self.now ≤ 33 }
+    {
+        &self.items[..self.count]
+    }
+
+    /// Puts a number at the end.
+    pub(crate) fn push(&mut self, number: u64)
+        requires { length self.old < 33 }
+        ensures { self.new ≡ self.old ++ number ∷ [] }
+    {
+        self.items[self.count] = number;
+        self.count += 1;
+    }
+
+    /// Puts a number at the end so many times.
+    pub(crate) fn push_times(&mut self, number: u64, times: u8)
+        requires { length self.old + times ≤ 33 }
+        ensures { self.new ≡ self.old ++ replicate times number }
+    {
+        for _ in 0..times {
+            self.push(number);
+        }
+    }
+}

@@ -1,0 +1,20 @@
+//! Decorated trees.
+
+use prufer::Edges;
+
+/// A decorated tree. Places past the used ones hold 0.
+#[derive(Clone, Copy, Debug, PartialEq, Eq)]
+pub struct Tree {
+    /// The number of vertices, from 2 to 11.
+    pub n: u8,
+    /// The edges, n - 1 pairs (u, v) with u < v < n.
+    pub edges: Edges,
+    /// The colour of each vertex, n places of 11.
+    pub colours: [u8; 11],
+    /// The degree of each edge, n - 1 places of 10.
+    pub degrees: [u8; 10],
+    /// The number of marks, from 0 to 12.
+    pub m: u8,
+    /// The vertex of each mark, m places of 12.
+    pub marks: [u8; 12],
+}
