@@ -1,3 +1,6 @@
 pub mod Lists
 pub mod Counts
 pub mod Refusals
+pub mod Growing
+pub mod Walking
+pub mod Ranking

@@ -2,3 +2,5 @@ pub mod Shapes
 pub mod NumbersFields
 pub mod ShapeFields
 pub mod Trees
+pub mod Steps
+pub mod Growth

@@ -10,8 +10,12 @@
 
 mod bases;
 mod numbers;
+mod ranks;
 mod shape;
+mod text;
 mod tree;
+mod walk;
 
 pub use shape::{Shape, ShapeError};
+pub use text::write_text;
 pub use tree::Tree;

@@ -1,0 +1,24 @@
+use Rattle.std.proofs.Common.{◌≡◌, ◌-◌, ◌+◌, ℕ, List, Bool, drop, length, arith, sym, ap, ◌∙◌, refl, subst}
+use Rattle.decorated_tree.specs.Steps.{AreWithin}
+use Rattle.decorated_tree.proofs.Walking.{IsWalking, walk_of_tree, walking_start, walking_round, walking_end, stepped, not_stepped, walked}
+use Rattle.decorated_tree.proofs.walk.walk_from_zero.Goals.{in-Some, in_default}
+use Rattle.decorated_tree.proofs.walk.walk_from_zero.Goals as goal
+
+pub bounds-there-step : goal.bounds-there-step
+bounds-there-step c =
+    (stepped c.args.n c.args.edges.now (c.args.n - (c.loop.counter + 1)) c.loop-edge.edge-index c.loop-edge.walk c.loop-edge.there _ c.in-Some.step c.requires.most c.requires.tree c.loop-edge-test.true c.step_along.ensures c.in-Some.is c.loop-edge.invariant).new
+
+pub push-requires : goal.push-requires
+push-requires c =
+    (stepped c.args.n c.args.edges.now (c.args.n - (c.loop.counter + 1)) c.loop-edge.edge-index c.loop-edge.walk c.loop-edge.there _ c.in-Some.step c.requires.most c.requires.tree c.loop-edge-test.true c.step_along.ensures c.in-Some.is c.loop-edge.invariant).room
+
+pub loop-edge-preserved : goal.loop-edge-preserved
+loop-edge-preserved c =
+    elim c.match-step_along.branch [
+      in-Some w ↦ rw (w.walk-is, w.there-is, w.push.ensures) ((stepped c.args.n c.args.edges.now (c.args.n - (c.loop.counter + 1)) c.loop-edge.edge-index c.loop-edge.walk c.loop-edge.there _ w.in-Some.step c.requires.most c.requires.tree c.loop-edge-test.true c.step_along.ensures w.in-Some.is c.loop-edge.invariant).next)
+    | in_default w ↦ rw (w.walk-is, w.there-is) (not_stepped c.args.n c.args.edges.now (c.args.n - (c.loop.counter + 1)) c.loop-edge.edge-index c.loop-edge.walk c.loop-edge.there _ c.requires.most c.requires.tree c.loop-edge-test.true c.step_along.ensures w.in_default.is c.loop-edge.invariant) ]
+
+pub returns-clause-within : goal.returns-clause-within
+returns-clause-within c =
+    let done = walked c.args.n c.args.edges.now (c.args.n - c.loop.counter) c.loop.walk c.loop.there (omega arith) c.loop.invariant in
+    subst (AreWithin c.args.n) (sym done) (walk_of_tree c.args.n c.args.edges.now c.requires.most c.requires.tree).within
