@@ -1,5 +1,5 @@
 -- How many trees there are with so many vertices, one number after the other.
-use Rattle.std.proofs.Common.{◌≡◌, ℕ, zero, suc, ◌+◌, ◌-◌, ◌*◌, ◌^◌, ◌<◌, ◌≤◌, Bool, true, false, ◌&&◌, nat_le, List, [], ◌∷◌, ◌++◌, length, replicate, refl, sym, ap, ◌∙◌, subst, arith, mul-pos, nat_lt}
+use Rattle.std.proofs.Common.{◌≡◌, ℕ, zero, suc, ◌+◌, ◌-◌, ◌*◌, ◌^◌, ◌<◌, ◌≤◌, Bool, true, false, ◌&&◌, nat_le, List, [], ◌∷◌, ◌++◌, length, replicate, refl, sym, ap, ◌∙◌, subst, arith, mul-pos, Option, Some, None, IsSome, IsNone}
 use Rattle.std.proofs.lemmas.Bool.Decides.{nat_tests}
 use Rattle.trees.specs.Decorated.{TreeShape}
 use Rattle.trees.specs.Numbering.{product_of, choose}
@@ -133,3 +133,17 @@ counted_all s n counts count e c =
     let all : n - 2 ≡ s.degree = omega arith in
     let total : count ≡ trees_from s 2 s.degree = c.total ∙ ap (trees_from s 2) all in
     (c.counts ∙ ap (counts_from s 2) all, total, subst (λ z. z ≤ 1099511627776) total c.limited)
+
+pub with_within : (s : TreeShape) (n : ℕ) → 2 ≤ n → n ≤ s.degree + 1 → trees_with s n ≤ tree_count s
+unfolding tree_count
+with_within s n least most =
+    let here : 2 + (n - 2) ≡ n = omega arith in
+    let push = total_push s 2 (n - 2) ∙ ap (λ z. trees_from s 2 (n - 2) + trees_with s z) here in
+    plus _ _ (trees_from s 2 (n - 2)) (trees_with s n) push (total_within s 2 (suc (n - 2)) s.degree (omega arith))
+  where
+    plus : (a b t w : ℕ) → a ≡ t + w → a ≤ b → w ≤ b
+    plus a b t w e l = omega arith
+
+pub is_there : (o : Option (List ℕ)) → (IsNone o → ⊥) → IsSome o
+is_there (Some x) h = refl
+is_there None h = absurd (h refl)

@@ -4,3 +4,4 @@ pub mod Refusals
 pub mod Growing
 pub mod Walking
 pub mod Ranking
+pub mod Places

@@ -9,6 +9,7 @@
 #![tactic(auto)]
 
 mod bases;
+mod numbering;
 mod numbers;
 mod ranks;
 mod shape;

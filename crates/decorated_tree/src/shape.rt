@@ -1,12 +1,12 @@
 //! Shapes, and how many decorated trees they have.
 
 ghost use Rattle.std.specs.Prelude.{◌≡◌, ℕ, ◌+◌, ◌-◌, ◌^◌, ◌<◌, ◌≤◌, ◌↔◌, false, true, IsTrue, IfOk, IsErrOf};
-ghost use Rattle.trees.specs.Numbers.{tree_count, trees_from};
+ghost use Rattle.trees.specs.Numbers.{bases, tree_count};
 ghost use Rattle.decorated_tree.specs.Shapes.{shape_of, within_limits, counts_of};
 
 use crate::bases::radix;
 use crate::numbers::Numbers;
-use mixed_radix::MOST_NUMBERS;
+use mixed_radix::{MOST_NUMBERS, Radix};
 use std::marker::Model;
 
 /// The greatest colour of a [`Shape`] is at most this.
@@ -107,6 +107,7 @@ impl Shape {
         ensures value { result ≡ self.now.degree }
         ensures least { 1 ≤ result }
         ensures most { result ≤ 10 }
+        ensures shape { within_limits self.now ≡ true }
     {
         self.d
     }
@@ -129,10 +130,20 @@ impl Shape {
     }
 
     /// How many trees have 2, 3, up to d + 1 vertices.
-    fn counts(&self) -> &[u64]
-        ensures { result.now ≡ counts_of self.now }
+    pub(crate) fn counts(&self) -> &[u64]
+        ensures value { result.now ≡ counts_of self.now }
+        ensures shape { within_limits self.now ≡ true }
     {
         self.counts.as_slice()
+    }
+
+    /// The numbers by the digits of a tree with `n` vertices.
+    pub(crate) fn radix(&self, n: u8) -> Radix
+        requires least { 2 ≤ n }
+        requires most { n ≤ self.now.degree + 1 }
+        ensures { result ≡ bases self.now n }
+    {
+        radix(self.r, self.d, self.m, n).unwrap()
     }
 }
 
