@@ -65,7 +65,7 @@ counts_push s n (suc k) =
     let e : n + 1 + k ≡ n + suc k = omega arith in
     ap (λ l. trees_with s n ∷ l) (counts_push s (n + 1) k ∙ ap (λ z. counts_from s (n + 1) k ++ trees_with s z ∷ []) e)
 
-total_push : (s : TreeShape) (n k : ℕ) → trees_from s n (suc k) ≡ trees_from s n k + trees_with s (n + k)
+pub total_push : (s : TreeShape) (n k : ℕ) → trees_from s n (suc k) ≡ trees_from s n k + trees_with s (n + k)
 total_push s n zero = let e : n ≡ n + 0 = omega arith in plus (trees_with s n) (trees_with s (n + 0)) (ap (λ z. trees_with s z) e)
   where
     plus : (a b : ℕ) → a ≡ b → a + 0 ≡ 0 + b
@@ -90,7 +90,7 @@ total_more s n k (suc more) =
     plus : (a b c e : ℕ) → e ≡ b + c → a ≤ b → a ≤ e
     plus a b c e h k = omega arith
 
-total_within : (s : TreeShape) (n k most : ℕ) → k ≤ most → trees_from s n k ≤ trees_from s n most
+pub total_within : (s : TreeShape) (n k most : ℕ) → k ≤ most → trees_from s n k ≤ trees_from s n most
 total_within s n k most h = let e : k + (most - k) ≡ most = omega arith in subst (λ z. trees_from s n k ≤ trees_from s n z) e (total_more s n k (most - k))
 
 -- ---- the counts of a shape, as far as the trees with fewer than n vertices

@@ -5,3 +5,4 @@ pub mod Growing
 pub mod Walking
 pub mod Ranking
 pub mod Places
+pub mod Fitting

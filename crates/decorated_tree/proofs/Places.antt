@@ -17,7 +17,7 @@ use Rattle.trees.proofs.DegreeRanks.{in_place, ranked}
 use Rattle.trees.proofs.DigitParts.{AreTreeDigits, TreeDigits, tree_digits, in_member}
 use Rattle.trees.proofs.ColourDigits.{AreColourDigits}
 use Rattle.decorated_tree.specs.Shapes.{counts_from, counts_of}
-use Rattle.decorated_tree.proofs.Counts.{length-counts}
+use Rattle.decorated_tree.proofs.Counts.{length-counts, total_push, total_within}
 
 -- ---- the number of vertices
 first_kind : (s : TreeShape) (n more k : ℕ) → k < trees_with s n → tree_from s n (suc more) k ≡ tree_by s n (split (bases s n) k)
@@ -254,3 +254,17 @@ filled_tree s n ds letters places others last es cs bs d m ms least most small h
       view = view_is n _ _ _ _ _ _ _ _ edges (used_places 11 n _ cs of_colours colours_long) (used_places 10 (n - 1) _ bs of_degrees degrees_long) (used_places 12 m _ ms of_marks marks_long);
       padding = all_parts _ _ _ (other_places 11 n _ cs of_colours colours_long) (other_places 10 (n - 1) _ bs of_degrees degrees_long) (other_places 12 m _ ms of_marks marks_long);
     }
+
+-- ---- the trees with fewer vertices
+pub more_before : (s : TreeShape) (counts : List ℕ) (before i : ℕ) → counts ≡ counts_of s → i < s.degree → before ≡ trees_from s 2 i → before + get_or counts i 0 ≡ trees_from s 2 (i + 1)
+more_before s counts before i e h b =
+    let here : get_or counts i 0 ≡ trees_with s (2 + i) = ap (λ z. get_or z i 0) e ∙ count_here s i h in
+    let next : suc i ≡ i + 1 = omega arith in
+    plus (trees_from s 2 i) (trees_with s (2 + i)) _ _ b here (total_push s 2 i) ∙ ap (trees_from s 2) next
+  where
+    plus : (x y c whole : ℕ) → before ≡ x → c ≡ y → whole ≡ x + y → before + c ≡ whole
+    plus x y c whole p q r = omega arith
+
+pub before_within : (s : TreeShape) (before i : ℕ) → i ≤ s.degree → before ≡ trees_from s 2 i → tree_count s ≤ 1099511627776 → before ≤ 1099511627776
+unfolding tree_count
+before_within s before i h b l = let w = total_within s 2 i s.degree h in omega arith

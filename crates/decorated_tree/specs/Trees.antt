@@ -1,7 +1,7 @@
 -- What a `Tree` stands for.
-use Rattle.std.specs.Prelude.{◌-◌, ◌==◌, ◌&&◌, Bool, take, drop}
+use Rattle.std.specs.Prelude.{◌-◌, ◌+◌, ◌==◌, ◌&&◌, nat_le, nat_lt, Bool, sum, take, drop}
 use Rattle.std.specs.List.{list_all}
-use Rattle.trees.specs.Decorated.{DecoratedTree}
+use Rattle.trees.specs.Decorated.{DecoratedTree, TreeShape, is_decorated}
 use Rattle.decorated_tree.specs.declared.tree.Tree.{Tree}
 
 -- the decorated tree in the used places
@@ -19,3 +19,14 @@ abbrev pub is_padded : Tree → Bool
 is_padded t =
     list_all (λ x. x == 0) (drop t.n t.colours) && list_all (λ x. x == 0) (drop (t.n - 1) t.degrees)
     && list_all (λ x. x == 0) (drop t.m t.marks)
+
+-- a decorated tree of the shape stands in the used places, and 0 in the others
+abbrev pub is_tree_of : TreeShape → Tree → Bool
+is_tree_of s t = (t.m == s.marks) && is_padded t && is_decorated s (tree_view t)
+
+-- all that is asked of a tree of the shape but that its edges are a tree and their ends have different colours
+abbrev pub fits_shape : TreeShape → Tree → Bool
+fits_shape s t =
+    nat_le 2 t.n && nat_le t.n (s.degree + 1) && (t.m == s.marks) && is_padded t && list_all (λ c. nat_le c s.rank) (take t.n t.colours)
+    && list_all (λ a. nat_le 1 a) (take (t.n - 1) t.degrees) && (sum (take (t.n - 1) t.degrees) == s.degree)
+    && list_all (λ v. nat_lt v t.n) (take t.m t.marks)

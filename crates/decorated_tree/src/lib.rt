@@ -9,14 +9,18 @@
 #![tactic(auto)]
 
 mod bases;
+mod number;
 mod numbering;
 mod numbers;
 mod ranks;
 mod shape;
+#[cfg(test)]
+mod tests;
 mod text;
 mod tree;
 mod walk;
 
+pub use number::NotOfShape;
 pub use shape::{Shape, ShapeError};
 pub use text::write_text;
 pub use tree::Tree;

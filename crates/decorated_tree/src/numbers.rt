@@ -68,4 +68,14 @@ impl Numbers {
             self.push(number);
         }
     }
+
+    /// Puts small numbers at the end.
+    pub(crate) fn extend(&mut self, numbers: &[u8])
+        requires { length self.old + length numbers.now ≤ 33 }
+        ensures { self.new ≡ self.old ++ numbers.now }
+    {
+        for number in numbers {
+            self.push(*number as u64);
+        }
+    }
 }

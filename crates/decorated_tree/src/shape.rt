@@ -1,7 +1,8 @@
 //! Shapes, and how many decorated trees they have.
 
 ghost use Rattle.std.specs.Prelude.{◌≡◌, ℕ, ◌+◌, ◌-◌, ◌^◌, ◌<◌, ◌≤◌, ◌↔◌, false, true, IsTrue, IfOk, IsErrOf};
-ghost use Rattle.trees.specs.Numbers.{bases, tree_count};
+ghost use Rattle.trees.specs.Numbering.{product_of};
+ghost use Rattle.trees.specs.Numbers.{bases, tree_count, trees_from};
 ghost use Rattle.decorated_tree.specs.Shapes.{shape_of, within_limits, counts_of};
 
 use crate::bases::radix;
@@ -133,6 +134,7 @@ impl Shape {
     pub(crate) fn counts(&self) -> &[u64]
         ensures value { result.now ≡ counts_of self.now }
         ensures shape { within_limits self.now ≡ true }
+        ensures limited { tree_count self.now ≤ 2 ^ 40 }
     {
         self.counts.as_slice()
     }
@@ -141,9 +143,25 @@ impl Shape {
     pub(crate) fn radix(&self, n: u8) -> Radix
         requires least { 2 ≤ n }
         requires most { n ≤ self.now.degree + 1 }
-        ensures { result ≡ bases self.now n }
+        ensures value { result ≡ bases self.now n }
+        ensures limited { product_of result ≤ 2 ^ 40 }
     {
         radix(self.r, self.d, self.m, n).unwrap()
+    }
+
+    /// How many trees have fewer than `n` vertices.
+    pub(crate) fn before(&self, n: u8) -> u64
+        requires least { 2 ≤ n }
+        requires most { n ≤ self.now.degree + 1 }
+        ensures value { result ≡ trees_from self.now 2 (n - 2) }
+        ensures limited { result ≤ 2 ^ 40 }
+    {
+        let counts = self.counts();
+        let mut before = 0;
+        for fewer in 0..n as usize - 2 {
+            before += counts[fewer];
+        }
+        before
     }
 }
 

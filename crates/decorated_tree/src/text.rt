@@ -5,7 +5,7 @@ ghost use Rattle.trees.specs.Texts.{edges_text, numbers_text, marks_text, tree_t
 ghost use Rattle.decorated_tree.specs.Trees.{tree_view};
 ghost use Rattle.decorated_tree.specs.Growth.{Grows};
 
-use crate::tree::Tree;
+use crate::tree::{Tree, used};
 use residue::NoMemory;
 
 /// Appends the text of a tree, one line without its line feed, as `edges 0-1:1 0-2:1 colours 0 1 1 marks -`.
@@ -34,13 +34,6 @@ fn append_tree(to: &mut Vec<u8>, tree: &Tree) -> Result<(), NoMemory>
     append_numbers(to, used(&tree.colours, tree.n))?;
     append(to, b" marks")?;
     append_marks(to, used(&tree.marks, tree.m))
-}
-
-/// The places in use.
-fn used(places: &[u8], count: u8) -> &[u8]
-    ensures { result.now ≡ take count places.now }
-{
-    &places[..places.len().min(count as usize)]
 }
 
 /// Appends a space and `u-v:a` for each edge (u, v) with its degree a.

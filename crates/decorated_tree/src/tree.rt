@@ -1,5 +1,7 @@
 //! Decorated trees.
 
+ghost use Rattle.std.specs.Prelude.{◌≡◌, take};
+
 use prufer::Edges;
 
 /// A decorated tree. Places past the used ones hold 0.
@@ -17,4 +19,11 @@ pub struct Tree {
     pub m: u8,
     /// The vertex of each mark, m places of 12.
     pub marks: [u8; 12],
+}
+
+/// The places in use.
+pub(crate) fn used(places: &[u8], count: u8) -> &[u8]
+    ensures { result.now ≡ take count places.now }
+{
+    &places[..places.len().min(count as usize)]
 }
