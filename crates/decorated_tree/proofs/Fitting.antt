@@ -43,7 +43,7 @@ tree_of_shape s t h =
     let first = both _ _ (both _ _ h).0 in
     record {
       fits = join _ _ (join _ _ (join _ _ (join _ _ (join _ _ (join _ _ (join _ _ (le-leb 2 t.n d.least) (le-leb t.n (s.degree + 1) d.most)) first.0) first.1) d.colours_within) d.degrees_positive)
-        (eq-eqb _ _ d.degrees_sum)) d.marks_within;
+          (eq-eqb _ _ d.degrees_sum)) d.marks_within;
       tree = d.tree;
       differ = d.differ;
     }

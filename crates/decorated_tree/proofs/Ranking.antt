@@ -128,13 +128,13 @@ made_step count total rank place degrees left rest f others next small short les
       most = omega arith;
       below = subst (λ z. next < choose (left - f - 1) (z - 1)) (sym k) below;
       lists = λ tail a. (let own : AreDegrees others (left - f) tail = subst (λ z. AreDegrees z (left - f) tail) k a in
-        let whole : AreDegrees (count - place) left (f ∷ tail) = subst (λ z. AreDegrees z left (f ∷ tail)) back (degrees-cons others left f tail some (omega arith) own) in
-        let r = m.lists (f ∷ tail) whole in
-        let same : made ++ f ∷ tail ≡ (made ++ f ∷ []) ++ tail = sym (append_assoc made (f ∷ []) tail) in
-        let first = rank-first f left others tail own.long (omega arith) in
-        let sums = r.1 in
-        let ranks : rank_of (made ++ f ∷ tail) total ≡ rank_of ((made ++ f ∷ []) ++ tail) total = ap (λ l. rank_of l total) same in
-        (subst (AreDegrees count total) same r.0, omega arith));
+          let whole : AreDegrees (count - place) left (f ∷ tail) = subst (λ z. AreDegrees z left (f ∷ tail)) back (degrees-cons others left f tail some (omega arith) own) in
+          let r = m.lists (f ∷ tail) whole in
+          let same : made ++ f ∷ tail ≡ (made ++ f ∷ []) ++ tail = sym (append_assoc made (f ∷ []) tail) in
+          let first = rank-first f left others tail own.long (omega arith) in
+          let sums = r.1 in
+          let ranks : rank_of (made ++ f ∷ tail) total ≡ rank_of ((made ++ f ∷ []) ++ tail) total = ap (λ l. rank_of l total) same in
+          (subst (AreDegrees count total) same r.0, omega arith));
     }
 
 pub made_end : (count total rank : ℕ) (degrees : List ℕ) (left rest place : ℕ) → 1 ≤ count → count ≤ total → total ≤ 10 → place ≡ count - 1

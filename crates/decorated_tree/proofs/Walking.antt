@@ -215,7 +215,7 @@ stepped_at n es rounds e rest walk marks s short p q found w =
       next = record {
         there = subst (AreThere (set marks s.0 true)) (sym pushed) (more_there marks before s.0 (step_ends e s (is_there e.0 before) (is_there e.1 before) found p q) w.there);
         whole = ap (λ b. (walk ++ s ∷ []) ++ (steps_of rest b ++ walk_in rounds es (after (steps_of rest b) b))) pushed
-          ∙ append_assoc walk (s ∷ []) tail ∙ whole;
+            ∙ append_assoc walk (s ∷ []) tail ∙ whole;
       };
     }
   where

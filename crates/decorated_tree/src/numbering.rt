@@ -47,6 +47,21 @@ impl Shape {
         self.tree_by(n, used)
     }
 
+    /// Goes on from the tree of the number `k` to that of `k` + 1, which is below [`Shape::count`]. It takes no memory.
+    pub fn next(&self, k: u64, tree: &mut Tree)
+        requires more { k + 1 < tree_count self.now }
+        requires tree { tree_view tree.old ≡ tree_of self.now k }
+        ensures value { tree_view tree.new ≡ tree_of self.now (k + 1) }
+        ensures decorated { IsTrue (is_decorated self.now (tree_view tree.new)) }
+        ensures listed { IsIn (tree_view tree.new) (all_trees self.now) }
+        ensures number { number_of self.now (tree_view tree.new) ≡ k + 1 }
+        ensures marks { tree.new.m ≡ self.now.marks }
+        ensures padded { IsTrue (is_padded tree.new) }
+    {
+        prove!(k < self.count());
+        *tree = self.tree(k + 1);
+    }
+
     /// Where the tree of the number `k` stands.
     fn place(&self, k: u64) -> Place
         requires { k < tree_count self.now }
@@ -124,7 +139,11 @@ fn colours_by(n: u8, edges: Edges, places: &[u64]) -> [u8; 11]
     copy_bytes(places, &mut digits[..places.len()]);
     let mut colours = digits;
     let walk = walk_from_zero(n, edges.as_slice());
-    colour(walk.as_slice(), &digits[..places.len()], &mut colours[..places.len()]);
+    colour(
+        walk.as_slice(),
+        &digits[..places.len()],
+        &mut colours[..places.len()],
+    );
     colours
 }
 

@@ -72,3 +72,53 @@ fn writes_and_numbers_trees(rt: HostRuntime) -> Result<(), Fail> {
     }
     Ok(())
 }
+
+#[test]
+fn numbers_each_tree_and_goes_on_to_the_next(rt: HostRuntime) -> Result<(), Fail> {
+    let shape = shape(3, 3, 1)?;
+    for k in 0..7583 {
+        if k + 1 >= shape.count() {
+            return Err("too great a number".into());
+        }
+        let mut tree = shape.tree(k);
+        shape.next(k, &mut tree);
+        assert_eq!(rt; tree, shape.tree(k + 1));
+        assert_eq!(rt; shape.number(&tree), Ok(k + 1));
+    }
+    Ok(())
+}
+
+#[test]
+fn refuses_trees_of_other_shapes(rt: HostRuntime) -> Result<(), Fail> {
+    let shape = shape(3, 3, 1)?;
+    if shape.count() == 0 {
+        return Err("no trees".into());
+    }
+    let first = shape.tree(0);
+    let mut equal_ends = first;
+    equal_ends.colours[1] = 0;
+    let mut great_colour = first;
+    great_colour.colours[1] = 4;
+    let mut other_sum = first;
+    other_sum.degrees[0] = 2;
+    let mut great_mark = first;
+    great_mark.marks[0] = 2;
+    let mut more_marks = first;
+    more_marks.m = 2;
+    let mut unused_place = first;
+    unused_place.marks[1] = 1;
+    let mut no_tree = first;
+    no_tree.n = 3;
+    for tree in [
+        equal_ends,
+        great_colour,
+        other_sum,
+        great_mark,
+        more_marks,
+        unused_place,
+        no_tree,
+    ] {
+        assert_eq!(rt; shape.number(&tree), Err(NotOfShape));
+    }
+    Ok(())
+}

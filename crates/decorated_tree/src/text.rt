@@ -29,7 +29,11 @@ fn append_tree(to: &mut Vec<u8>, tree: &Tree) -> Result<(), NoMemory>
     ensures grows { Grows to.old.items to.new.items }
 {
     append(to, b"edges")?;
-    append_edges(to, tree.edges.as_slice(), used(&tree.degrees, tree.n.saturating_sub(1)))?;
+    append_edges(
+        to,
+        tree.edges.as_slice(),
+        used(&tree.degrees, tree.n.saturating_sub(1)),
+    )?;
     append(to, b" colours")?;
     append_numbers(to, used(&tree.colours, tree.n))?;
     append(to, b" marks")?;

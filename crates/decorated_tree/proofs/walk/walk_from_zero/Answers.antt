@@ -15,8 +15,9 @@ push-requires c =
 pub loop-edge-preserved : goal.loop-edge-preserved
 loop-edge-preserved c =
     elim c.match-step_along.branch [
-      in-Some w ↦ rw (w.walk-is, w.there-is, w.push.ensures) ((stepped c.args.n c.args.edges.now (c.args.n - (c.loop.counter + 1)) c.loop-edge.edge-index c.loop-edge.walk c.loop-edge.there _ w.in-Some.step c.requires.most c.requires.tree c.loop-edge-test.true c.step_along.ensures w.in-Some.is c.loop-edge.invariant).next)
-    | in_default w ↦ rw (w.walk-is, w.there-is) (not_stepped c.args.n c.args.edges.now (c.args.n - (c.loop.counter + 1)) c.loop-edge.edge-index c.loop-edge.walk c.loop-edge.there _ c.requires.most c.requires.tree c.loop-edge-test.true c.step_along.ensures w.in_default.is c.loop-edge.invariant) ]
+      | in-Some w ↦ rw (w.walk-is, w.there-is, w.push.ensures) ((stepped c.args.n c.args.edges.now (c.args.n - (c.loop.counter + 1)) c.loop-edge.edge-index c.loop-edge.walk c.loop-edge.there _ w.in-Some.step c.requires.most c.requires.tree c.loop-edge-test.true c.step_along.ensures w.in-Some.is c.loop-edge.invariant).next)
+      | in_default w ↦ rw (w.walk-is, w.there-is) (not_stepped c.args.n c.args.edges.now (c.args.n - (c.loop.counter + 1)) c.loop-edge.edge-index c.loop-edge.walk c.loop-edge.there _ c.requires.most c.requires.tree c.loop-edge-test.true c.step_along.ensures w.in_default.is c.loop-edge.invariant)
+    ]
 
 pub returns-clause-within : goal.returns-clause-within
 returns-clause-within c =
