@@ -1,24 +1,22 @@
 -- What is asked of a tree of a shape, in the order in which it is tested.
-use Rattle.std.proofs.Common.{◌≡◌, ℕ, zero, suc, ◌+◌, ◌-◌, ◌*◌, ◌<◌, ◌≤◌, Bool, true, false, ◌&&◌, ◌==◌, nat_lt, nat_le, List, [], ◌∷◌, ◌++◌, length, take, drop, get_or, set, length-set, sum, refl, sym, ap, ap₂, ◌∙◌, subst, arith, eqb-true, eq-eqb, leb-true, le-leb}
+use Rattle.std.proofs.Common.{◌≡◌, ℕ, ◌+◌, ◌-◌, ◌<◌, ◌≤◌, Bool, true, false, ◌&&◌, nat_lt, nat_le, List, [], ◌∷◌, ◌++◌, length, take, get_or, set, length-set, sum, refl, sym, ap, ap₂, ◌∙◌, subst, arith, eqb-true, eq-eqb, leb-true, le-leb}
 use Rattle.std.specs.List.{list_all}
 use Rattle.std.proofs.lemmas.List.{length-take-le}
 use Rattle.std.proofs.Math.Seq.{take-append_seam}
 use Rattle.std.proofs.lemmas.Bool.Decides.{nat_tests}
 use Rattle.trees.specs.Edges.{is_tree}
-use Rattle.trees.specs.Decorated.{TreeShape, DecoratedTree, is_decorated, ends_differ}
+use Rattle.trees.specs.Decorated.{TreeShape, ends_differ}
 use Rattle.trees.specs.Words.{encoded}
 use Rattle.trees.specs.Walks.{walk_in, digits_of, place_of}
-use Rattle.trees.specs.Numbering.{AreDigits, joined, product_of, rank_of}
-use Rattle.trees.specs.Numbers.{bases, trees_with, trees_from, tree_count, tree_of, number_of, digits_by}
+use Rattle.trees.specs.Numbering.{AreDigits, joined, rank_of}
+use Rattle.trees.specs.Numbers.{bases, trees_from, tree_count, tree_of, number_of, digits_by}
 use Rattle.trees.proofs.AllTrees.{both, IsDecorated, parts, decorated_from}
 use Rattle.trees.proofs.DegreeRanks.{AreDegrees}
-use Rattle.trees.proofs.DigitParts.{AreTreeDigits, regroup_digits}
 use Rattle.trees.proofs.TreeDigits.{digits_with, digits_by_digits}
 use Rattle.trees.proofs.NumberLaws.{number_of_below, tree_of-number_of}
 use Rattle.decorated_tree.specs.declared.tree.Tree.{Tree}
 use Rattle.decorated_tree.specs.Steps.{AreWithin}
 use Rattle.decorated_tree.specs.Trees.{tree_view, is_padded, is_tree_of, fits_shape}
-use Rattle.decorated_tree.proofs.Walking.{walk_of_tree}
 
 join : (a b : Bool) → a ≡ true → b ≡ true → (a && b) ≡ true
 join a b h k = grind arith

@@ -1,5 +1,5 @@
 -- Texts appended one after the other.
-use Rattle.std.proofs.Common.{◌≡◌, ℕ, List, [], ◌++◌, append_assoc, refl, sym, ap, ◌∙◌}
+use Rattle.std.proofs.Common.{◌≡◌, ℕ, List, ◌++◌, append_assoc, ap, ◌∙◌}
 use Rattle.decorated_tree.specs.Growth.{Grows}
 
 pub grows_on : (a b c : List ℕ) → Grows a b → Grows b c → Grows a c

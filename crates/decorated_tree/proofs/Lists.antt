@@ -1,5 +1,5 @@
 -- Lists of one number.
-use Rattle.std.proofs.Common.{◌≡◌, ℕ, zero, suc, ◌+◌, List, [], ◌∷◌, ◌++◌, replicate, refl, ap, arith}
+use Rattle.std.proofs.Common.{◌≡◌, ℕ, zero, suc, [], ◌∷◌, ◌++◌, replicate, refl, ap}
 
 pub replicate_push : (k x : ℕ) → replicate (suc k) x ≡ replicate k x ++ x ∷ []
 replicate_push zero x = refl

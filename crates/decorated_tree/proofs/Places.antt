@@ -1,5 +1,5 @@
 -- Where the tree of a number stands, and the parts of its digits.
-use Rattle.std.proofs.Common.{◌≡◌, ℕ, zero, suc, ◌+◌, ◌-◌, ◌*◌, ◌<◌, ◌≤◌, Bool, true, false, ◌&&◌, ◌==◌, nat_lt, if◌then◌else◌, List, [], ◌∷◌, ◌++◌, length, get_or, take, drop, replicate, All, ◌≢◌, inl, inr, ◌⊎◌, set, length-set, refl, sym, ap, ◌∙◌, subst, arith, lt-ltb, le-ltb, ltb-true}
+use Rattle.std.proofs.Common.{◌≡◌, ℕ, zero, suc, ◌+◌, ◌-◌, ◌*◌, ◌<◌, ◌≤◌, Bool, true, ◌&&◌, ◌==◌, nat_lt, if◌then◌else◌, List, [], ◌∷◌, ◌++◌, length, get_or, take, drop, replicate, All, ◌≢◌, inl, inr, ◌⊎◌, set, length-set, refl, sym, ap, ◌∙◌, subst, arith, lt-ltb, le-ltb, ltb-true}
 use Rattle.std.specs.List.{list_all}
 use Rattle.std.proofs.lemmas.List.{get_or-append-add, length-append, length-drop, drop-replicate}
 use Rattle.std.proofs.lemmas.List.Elements.{All-from_get_or, All-same}
@@ -11,10 +11,9 @@ use Rattle.trees.specs.Words.{is_member, decoded}
 use Rattle.trees.specs.Numbering.{AreDigits, choose, split, degree_lists}
 use Rattle.trees.specs.Walks.{walk_in, coloured, lifted}
 use Rattle.trees.specs.Numbers.{bases, trees_with, trees_from, tree_count, tree_by, tree_from, tree_of}
-use Rattle.trees.proofs.Listed.{IsIn}
 use Rattle.trees.proofs.AllTrees.{each_of}
 use Rattle.trees.proofs.DegreeRanks.{in_place, ranked}
-use Rattle.trees.proofs.DigitParts.{AreTreeDigits, TreeDigits, tree_digits, in_member}
+use Rattle.trees.proofs.DigitParts.{tree_digits, in_member}
 use Rattle.trees.proofs.ColourDigits.{AreColourDigits}
 use Rattle.decorated_tree.specs.Shapes.{counts_from, counts_of}
 use Rattle.decorated_tree.proofs.Counts.{length-counts, total_push, total_within}

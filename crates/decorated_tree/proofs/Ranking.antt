@@ -1,5 +1,5 @@
 -- Lists of degrees and their ranks, one number after the other.
-use Rattle.std.proofs.Common.{◌≡◌, ℕ, zero, suc, ◌+◌, ◌-◌, ◌*◌, ◌<◌, ◌≤◌, Bool, true, ◌&&◌, nat_le, List, [], ◌∷◌, ◌++◌, length, get_or, set, take, drop, replicate, map, sum, refl, sym, ap, ◌∙◌, subst, arith, le-leb, leb-true, append_assoc, length-append, add-one}
+use Rattle.std.proofs.Common.{◌≡◌, ℕ, zero, suc, ◌+◌, ◌-◌, ◌*◌, ◌<◌, ◌≤◌, Bool, true, ◌&&◌, nat_le, List, [], ◌∷◌, ◌++◌, length, get_or, set, take, drop, replicate, sum, refl, sym, ap, ◌∙◌, subst, arith, le-leb, leb-true, append_assoc, length-append}
 use Rattle.std.specs.List.{list_all}
 use Rattle.std.proofs.lemmas.List.{length-take-le}
 use Rattle.std.proofs.lemmas.List.Sums.{sum_by-cons}

@@ -1,5 +1,5 @@
 -- Which lists of bases of a tree are refused.
-use Rattle.std.proofs.Common.{◌≡◌, ℕ, ◌<◌, ◌≤◌, ◌==◌, ◌↔◌, List, length, Option, Some, None, Result, Ok, Err, IsNone, is_some, IfOk, ap, true, false, IsErrOf, position, refl, sym, arith}
+use Rattle.std.proofs.Common.{◌≡◌, ℕ, ◌<◌, ◌≤◌, ◌==◌, ◌↔◌, List, length, Option, Some, Result, Ok, Err, IsNone, is_some, IfOk, ap, true, IsErrOf, position, refl, sym, arith}
 use Rattle.std.specs.Result.{result_ok}
 use Rattle.trees.specs.Numbering.{product_of}
 use Rattle.mixed_radix.specs.declared.RadixError.{RadixError}

@@ -1,5 +1,5 @@
 -- The walk from vertex 0, one edge after the other.
-use Rattle.std.proofs.Common.{◌≡◌, ◌≢◌, ℕ, zero, suc, ◌+◌, ◌-◌, ◌<◌, ◌≤◌, Bool, true, false, ◌&&◌, ◌||◌, ◌==◌, not, nat_lt, if◌then◌else◌, List, [], ◌∷◌, ◌++◌, length, get_or, set, drop, replicate, Option, Some, None, refl, sym, ap, ◌∙◌, subst, inl, inr, ◌⊎◌, ⊎_elim, arith, eqb-true, append_assoc, length-append, length-set, get_or-set_other, get_or-set_same}
+use Rattle.std.proofs.Common.{◌≡◌, ◌≢◌, ℕ, zero, suc, ◌+◌, ◌<◌, ◌≤◌, Bool, true, false, ◌&&◌, ◌||◌, ◌==◌, not, nat_lt, if◌then◌else◌, List, [], ◌∷◌, ◌++◌, length, get_or, set, drop, replicate, Option, Some, None, refl, sym, ap, ◌∙◌, subst, inl, inr, ◌⊎◌, ⊎_elim, arith, eqb-true, append_assoc, length-append, length-set, get_or-set_other, get_or-set_same}
 use Rattle.std.specs.List.{list_all}
 use Rattle.std.proofs.lemmas.Bool.{cases_eq}
 use Rattle.std.proofs.lemmas.Bool.Decides.{nat_tests}
@@ -8,12 +8,11 @@ use Rattle.std.proofs.Math.ListN.{drop_of_length-le}
 use Rattle.trees.specs.Edges.{below, is_tree}
 use Rattle.trees.specs.Words.{is_member, edge_between, AllDifferent}
 use Rattle.trees.specs.Walks.{is_there, steps_of, after, walk_in, IsWalk, lifted, place_of, coloured, digits_of}
-use Rattle.trees.proofs.Listed.{IsIn}
 use Rattle.trees.proofs.AllTrees.{both, each_of}
 use Rattle.trees.proofs.WordLaws.{subset_length, member-below, length-below}
 use Rattle.trees.proofs.DegreeRanks.{in_place}
 use Rattle.trees.proofs.WalkLaws.{Within}
-use Rattle.trees.proofs.WalkedEdges.{AlongEdges, IsTreeWalk, tree_walk}
+use Rattle.trees.proofs.WalkedEdges.{AlongEdges, tree_walk}
 use Rattle.decorated_tree.specs.Steps.{step_by, AreWithin}
 
 -- ---- the walk is short

@@ -1,4 +1,4 @@
-use Rattle.std.proofs.Common.{ap, subst, length, ◌≤◌, ◌∙◌, sym, rules}
+use Rattle.std.proofs.Common.{◌∙◌}
 use Rattle.trees.specs.Numbers.{bases}
 use Rattle.decorated_tree.specs.Shapes.{shape_of}
 use Rattle.decorated_tree.proofs.Counts.{some_trees}

@@ -1,4 +1,4 @@
-use Rattle.std.proofs.Common.{◌≡◌, ℕ, List, [], ◌∷◌, ◌++◌, take, drop, ap, ◌∙◌, refl, sym, length, replicate, subst}
+use Rattle.std.proofs.Common.{◌≡◌, ℕ, List, [], ◌∷◌, ◌++◌, take, drop, ap, ◌∙◌, refl, length, replicate}
 use Rattle.std.proofs.Math.Seq.{take-append_seam}
 use Rattle.prufer.specs.Padding.{padded}
 use Rattle.trees.specs.Walks.{walk_in, coloured}

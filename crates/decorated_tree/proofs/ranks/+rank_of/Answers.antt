@@ -1,4 +1,4 @@
-use Rattle.std.proofs.Common.{arith, length, ◌≡◌, ◌-◌, take, drop}
+use Rattle.std.proofs.Common.{arith}
 use Rattle.decorated_tree.proofs.Ranking.{short_tail, few_degrees, first_small}
 use Rattle.decorated_tree.proofs.ranks.+rank_of.Goals as goal
 

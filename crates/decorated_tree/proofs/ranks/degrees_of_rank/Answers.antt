@@ -1,4 +1,4 @@
-use Rattle.std.proofs.Common.{◌≡◌, ◌-◌, ◌+◌, ◌<◌, ◌≤◌, set, get_or, [], ap, subst, arith, refl}
+use Rattle.std.proofs.Common.{◌≡◌, ◌-◌, set, get_or, [], subst, arith, refl}
 use Rattle.prufer.specs.Padding.{padded}
 use Rattle.trees.specs.Numbering.{degree_lists}
 use Rattle.decorated_tree.proofs.Ranking.{made_step, made_end}

@@ -1,5 +1,5 @@
 use Rattle.decorated_tree.proofs.Ranking.{first_step, first_less}
-use Rattle.std.proofs.Common.{subst, ◌<◌, ◌+◌, arith}
+use Rattle.std.proofs.Common.{arith}
 use Rattle.decorated_tree.proofs.ranks.first_degree.Goals as goal
 
 pub returns-then-rest-passed-clause-less : goal.returns-then-rest-passed-clause-less

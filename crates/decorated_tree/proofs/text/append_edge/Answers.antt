@@ -1,4 +1,3 @@
-use Rattle.std.proofs.Common.{◌≡◌}
 use Rattle.std.proofs.lemmas.Result.{on_ok_weaker}
 use Rattle.decorated_tree.proofs.Growing.{grows_on, five_grow, six_more}
 use Rattle.decorated_tree.proofs.text.append_edge.Goals as goal

@@ -1,4 +1,4 @@
-use Rattle.std.proofs.Common.{◌≡◌, ◌-◌, ap, ap₂, ◌∙◌, take}
+use Rattle.std.proofs.Common.{ap, ap₂, ◌∙◌, take}
 use Rattle.std.proofs.lemmas.Result.{on_ok_weaker}
 use Rattle.trees.specs.Texts.{edges_text, numbers_text, marks_text}
 use Rattle.decorated_tree.proofs.Growing.{grows_on, five_grow, six_more, same_more}

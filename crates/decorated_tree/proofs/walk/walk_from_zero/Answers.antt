@@ -1,6 +1,6 @@
-use Rattle.std.proofs.Common.{◌≡◌, ◌-◌, ◌+◌, ℕ, List, Bool, drop, length, arith, sym, ap, ◌∙◌, refl, subst}
+use Rattle.std.proofs.Common.{◌-◌, ◌+◌, arith, sym, subst}
 use Rattle.decorated_tree.specs.Steps.{AreWithin}
-use Rattle.decorated_tree.proofs.Walking.{IsWalking, walk_of_tree, walking_start, walking_round, walking_end, stepped, not_stepped, walked}
+use Rattle.decorated_tree.proofs.Walking.{walk_of_tree, stepped, not_stepped, walked}
 use Rattle.decorated_tree.proofs.walk.walk_from_zero.Goals.{in-Some, in_default}
 use Rattle.decorated_tree.proofs.walk.walk_from_zero.Goals as goal
 

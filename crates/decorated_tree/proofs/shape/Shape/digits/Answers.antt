@@ -1,5 +1,4 @@
-use Rattle.std.proofs.Common.{◌≡◌, ◌+◌, ◌-◌, ◌<◌, ◌≤◌, ◌++◌, [], ◌∷◌, ap, sym, ◌∙◌, subst, refl, arith, length, take, drop, true}
-use Rattle.std.proofs.lemmas.List.{length-take-le}
+use Rattle.std.proofs.Common.{◌≡◌, ◌-◌, ◌++◌, ap, sym, ◌∙◌, subst, refl, arith, length, take, drop, true}
 use Rattle.trees.specs.Edges.{is_tree}
 use Rattle.trees.proofs.DegreeRanks.{AreDegrees}
 use Rattle.decorated_tree.specs.Steps.{AreWithin}

@@ -1,14 +1,13 @@
-use Rattle.std.proofs.Common.{◌≡◌, ◌+◌, ◌-◌, ◌<◌, ◌≤◌, Bool, true, false, List, ℕ, length, take, ap, ap₂, sym, ◌∙◌, subst, refl, arith, rules}
+use Rattle.std.proofs.Common.{◌≡◌, Bool, true, false, length, take, ap, sym, ◌∙◌, subst, refl, arith}
 use Rattle.std.specs.List.{list_all}
 use Rattle.std.proofs.lemmas.List.{length-take-le}
-use Rattle.trees.specs.Edges.{is_tree}
 use Rattle.trees.specs.Decorated.{ends_differ}
 use Rattle.trees.specs.Numbering.{AreDigits}
 use Rattle.trees.specs.Numbers.{bases}
 use Rattle.decorated_tree.specs.Steps.{AreWithin}
-use Rattle.decorated_tree.specs.Trees.{is_tree_of, fits_shape}
+use Rattle.decorated_tree.specs.Trees.{is_tree_of}
 use Rattle.decorated_tree.proofs.Counts.{limits}
-use Rattle.decorated_tree.proofs.Fitting.{Arrays, TreeOf, tree_of_shape, shape_of_tree, not_true, edges_within, fit_facts, digits_within, number_is}
+use Rattle.decorated_tree.proofs.Fitting.{tree_of_shape, shape_of_tree, not_true, edges_within, fit_facts, digits_within, number_is}
 use Rattle.decorated_tree.proofs.shape.Shape.number.Goals as goal
 
 -- a failed test

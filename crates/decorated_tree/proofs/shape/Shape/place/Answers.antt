@@ -1,4 +1,4 @@
-use Rattle.std.proofs.Common.{◌≡◌, ap, length, arith}
+use Rattle.std.proofs.Common.{arith}
 use Rattle.decorated_tree.proofs.Counts.{limits}
 use Rattle.decorated_tree.proofs.Places.{place_start, found, not_found, place_short, never_through}
 use Rattle.decorated_tree.proofs.shape.Shape.place.Goals as goal
