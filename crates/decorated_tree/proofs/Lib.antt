@@ -6,3 +6,4 @@ pub mod Walking
 pub mod Ranking
 pub mod Places
 pub mod Fitting
+pub mod Following

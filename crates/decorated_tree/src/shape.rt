@@ -117,6 +117,7 @@ impl Shape {
     pub fn m(&self) -> u8
         ensures value { result ≡ self.now.marks }
         ensures most { result ≤ 12 }
+        ensures shape { within_limits self.now ≡ true }
     {
         self.m
     }
