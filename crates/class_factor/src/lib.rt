@@ -14,12 +14,14 @@
 #![tactic(auto)]
 
 mod at_edge;
+mod at_tree;
 mod at_vertex;
 mod limits;
 mod term;
 mod whole;
 
 pub use at_edge::{edge_part, edge_part_ratio};
+pub use at_tree::{term_value, whole_part};
 pub use at_vertex::{vertex_part, vertex_part_ratio};
 pub use limits::{are_powers_for, is_class_for};
 pub use term::term_ratio;

@@ -5,10 +5,12 @@
 //! the tree has `n` vertices (Kontsevich, Enumeration of rational curves via torus actions, 1995).
 #![tactic(auto)]
 
+mod at_tree;
 mod exponents;
 mod limits;
 mod sum;
 
+pub use at_tree::tree_contribution;
 pub use limits::{are_terms_for, is_term_for};
 pub use sum::{contribution, contribution_ratio};
 

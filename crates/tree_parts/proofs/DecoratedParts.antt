@@ -1,18 +1,20 @@
 -- The parts of a decorated tree are sound, and each of its vertices has an edge.
-use Rattle.std.proofs.Common.{◌≡◌, ℕ, ◌+◌, ◌<◌, ◌≤◌, true, cond, if◌then◌else◌, List, [], ◌∷◌, length, get_or, count_by, nat_lt, nat_le, All, refl, sym, ap, ◌∙◌, arith}
+use Rattle.std.proofs.Common.{◌≡◌, ℕ, ◌+◌, ◌<◌, ◌≤◌, true, cond, if◌then◌else◌, List, [], ◌∷◌, length, get_or, count_by, nat_lt, nat_le, All, IsTrue, ◌==◌, refl, sym, ap, subst, ◌∙◌, arith}
 use Rattle.std.proofs.lemmas.Bool.Decides.{nat_tests}
 use Rattle.std.proofs.lemmas.List.Sums.{AllPass-from_list_all, get_or-le-sum_by, sum_by-cons}
 use Rattle.std.proofs.lemmas.List.Elements.{All-nil, All-cons}
 use Rattle.trees.specs.Words.{degree_of, touches}
 use Rattle.trees.specs.Edges.{below}
-use Rattle.trees.specs.Decorated.{TreeShape, is_decorated}
-use Rattle.trees.proofs.AllTrees.{parts}
+use Rattle.trees.specs.Decorated.{DecoratedTree, TreeShape, is_decorated}
+use Rattle.trees.proofs.AllTrees.{both, parts}
 use Rattle.trees.proofs.Connected.{EndsAmong, connected_degree}
 use Rattle.trees.proofs.WordLaws.{member-below, length-below}
 use Rattle.trees.proofs.TreeLaws.{tree_from}
 use Rattle.tree_parts.specs.declared.parts.TreeParts.{TreeParts}
 use Rattle.tree_parts.specs.Ends.{is_end}
-use Rattle.tree_parts.specs.Parts.{tree_of_parts, AreParts, HasEnds}
+use Rattle.tree_parts.specs.Parts.{tree_of_parts, AreParts, HasEnds, IsSomeTree}
+use Rattle.decorated_tree.specs.declared.tree.Tree.{Tree}
+use Rattle.decorated_tree.specs.Trees.{tree_view, is_tree_of}
 use Rattle.tree_parts.proofs.Edgewise.{ends_counted}
 
 degree_is : (v : ℕ) (es : List (ℕ × ℕ)) → degree_of v es ≡ count_by (is_end v) es
@@ -72,3 +74,38 @@ decorated_ends s p h =
     let some = connected_degree (below n) p.edges.now v t.different (omega (arith, least, below_n)) t.connected (member-below v n ∙ is_below v n lt) in
     let counted = degree_is v p.edges.now ∙ ends_counted v p.colours.now p.edges.now p.degrees.now d.degrees in
     omega (arith, some, counted)
+
+-- ---- the parts of a `Tree`
+decorated_of : (s : TreeShape) (t : Tree) → IsTrue (is_tree_of s t) → is_decorated s (tree_view t) ≡ true
+decorated_of s t h = (both _ (is_decorated s (tree_view t)) h).1
+
+marks_of : (s : TreeShape) (t : Tree) → IsTrue (is_tree_of s t) → t.m ≡ s.marks
+marks_of s t h =
+    let first = (both _ (is_decorated s (tree_view t)) h).0 in
+    let test = (both (t.m == s.marks) _ first).0 in
+    by_test t.m s.marks test
+  where
+    by_test : (a b : ℕ) → (a == b) ≡ true → a ≡ b
+    by_test a b h = grind (arith, nat_tests)
+
+pub some_limits : (t : Tree) → IsSomeTree t → (1 ≤ t.n) × (t.n ≤ 11) × (t.m ≤ 12)
+some_limits t (s, few, marks, h) =
+    let d = parts s (tree_view t) (decorated_of s t h) in
+    let least = d.least in
+    let most = d.most in
+    let m = marks_of s t h in
+    (omega (arith, least), omega (arith, most, few), omega (arith, m, marks))
+
+pub some_parts : (t : Tree) (p : TreeParts) → IsSomeTree t → tree_of_parts p ≡ tree_view t → AreParts p
+some_parts t p (s, few, marks, h) e = decorated_parts s p few (ap (is_decorated s) e ∙ decorated_of s t h)
+
+pub some_ends : (t : Tree) (p : TreeParts) → IsSomeTree t → tree_of_parts p ≡ tree_view t → HasEnds p
+some_ends t p (s, few, marks, h) e = decorated_ends s p (ap (is_decorated s) e ∙ decorated_of s t h)
+
+pub some_marks : (t : Tree) (p : TreeParts) → IsSomeTree t → tree_of_parts p ≡ tree_view t → length p.marks.now ≡ t.m
+some_marks t p (s, few, marks, h) e =
+    let d = parts s (tree_view t) (decorated_of s t h) in
+    ap (λ (g : DecoratedTree). length g.marks) e ∙ d.marks ∙ sym (marks_of s t h)
+
+pub some_colours : (t : Tree) (p : TreeParts) (n : ℕ) → tree_of_parts p ≡ tree_view t → All (λ c. c < n) (tree_view t).colours → All (λ c. c < n) p.colours.now
+some_colours t p n e h = subst (λ (g : DecoratedTree). All (λ c. c < n) g.colours) (sym e) h

@@ -1,6 +1,8 @@
 -- The lists of a decorated tree, borrowed.
-use Rattle.std.specs.Prelude.{◌≡◌, ℕ, ◌<◌, ◌≤◌, length, All}
-use Rattle.trees.specs.Decorated.{DecoratedTree}
+use Rattle.std.specs.Prelude.{◌≡◌, ℕ, ◌<◌, ◌≤◌, length, All, IsTrue}
+use Rattle.trees.specs.Decorated.{DecoratedTree, TreeShape}
+use Rattle.decorated_tree.specs.declared.tree.Tree.{Tree}
+use Rattle.decorated_tree.specs.Trees.{is_tree_of}
 use Rattle.localisation.specs.ClassValue.{ends_at}
 use Rattle.tree_parts.specs.declared.parts.TreeParts.{TreeParts}
 
@@ -27,3 +29,7 @@ pub record AreParts (p : TreeParts) : Type 0 where
 -- each vertex has an edge
 abbrev pub HasEnds : TreeParts → Type 0
 HasEnds p = (v : ℕ) → v < length p.colours.now → 1 ≤ length (ends_at (tree_of_parts p) v)
+
+-- a decorated tree of some shape with a sum of degrees of at most 10 and at most 12 marks
+abbrev pub IsSomeTree : Tree → Type 0
+IsSomeTree t = (s : TreeShape) × (s.degree ≤ 10) × (s.marks ≤ 12) × IsTrue (is_tree_of s t)

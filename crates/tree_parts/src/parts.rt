@@ -4,6 +4,7 @@ ghost use Rattle.std.specs.Prelude.{◌≡◌, ◌<◌, ◌≤◌, ◌↔◌, Is
 ghost use Rattle.tree_parts.specs.Ends.{is_end};
 
 use crate::ends::Ends;
+use decorated_tree::Tree;
 
 /// The lists of a decorated tree, borrowed: its edges as pairs of vertices, the colours of its vertices, the degrees of
 /// its edges and the vertices of its marks.
@@ -21,6 +22,29 @@ pub struct ColouredEdge {
     pub first: u8,
     pub second: u8,
     pub degree: u8,
+}
+
+impl<'a> TreeParts<'a> {
+    ghost use Rattle.std.specs.Prelude.{◌≡◌, ◌≤◌};
+    ghost use Rattle.decorated_tree.specs.Trees.{tree_view};
+    ghost use Rattle.tree_parts.specs.Parts.{tree_of_parts};
+
+    /// The parts of a tree that has at most 11 vertices and 12 marks. Those of a decorated tree are sound, and each of its
+    /// vertices has an edge.
+    pub fn of(tree: &'a Tree) -> TreeParts<'a>
+        requires vertices_some { 1 ≤ tree.now.n }
+        requires vertices_limited { tree.now.n ≤ 11 }
+        requires marks_limited { tree.now.m ≤ 12 }
+        ensures value { tree_of_parts result ≡ tree_view tree.now }
+    {
+        let vertices = tree.n as usize;
+        TreeParts {
+            edges: tree.edges.as_slice(),
+            colours: &tree.colours[..vertices],
+            degrees: &tree.degrees[..vertices - 1],
+            marks: &tree.marks[..tree.m as usize],
+        }
+    }
 }
 
 impl TreeParts<'_> {
