@@ -1,5 +1,5 @@
 -- The parts of a decorated tree are sound, and each of its vertices has an edge.
-use Rattle.std.proofs.Common.{◌≡◌, ℕ, ◌+◌, ◌<◌, ◌≤◌, true, cond, if◌then◌else◌, List, [], ◌∷◌, length, get_or, count_by, nat_lt, nat_le, All, IsTrue, ◌==◌, refl, sym, ap, subst, ◌∙◌, arith}
+use Rattle.std.proofs.Common.{◌≡◌, ℕ, ◌+◌, ◌<◌, ◌≤◌, ◌&&◌, Bool, true, cond, if◌then◌else◌, List, [], ◌∷◌, length, get_or, count_by, nat_lt, nat_le, All, IsTrue, ◌==◌, refl, sym, ap, subst, ◌∙◌, arith}
 use Rattle.std.proofs.lemmas.Bool.Decides.{nat_tests}
 use Rattle.std.proofs.lemmas.List.Sums.{AllPass-from_list_all, get_or-le-sum_by, sum_by-cons}
 use Rattle.std.proofs.lemmas.List.Elements.{All-nil, All-cons}
@@ -14,7 +14,7 @@ use Rattle.tree_parts.specs.declared.parts.TreeParts.{TreeParts}
 use Rattle.tree_parts.specs.Ends.{is_end}
 use Rattle.tree_parts.specs.Parts.{tree_of_parts, AreParts, HasEnds, IsSomeTree}
 use Rattle.decorated_tree.specs.declared.tree.Tree.{Tree}
-use Rattle.decorated_tree.specs.Trees.{tree_view, is_tree_of}
+use Rattle.decorated_tree.specs.Trees.{tree_view, is_padded, is_tree_of}
 use Rattle.tree_parts.proofs.Edgewise.{ends_counted}
 
 degree_is : (v : ℕ) (es : List (ℕ × ℕ)) → degree_of v es ≡ count_by (is_end v) es
@@ -109,3 +109,19 @@ some_marks t p (s, few, marks, h) e =
 
 pub some_colours : (t : Tree) (p : TreeParts) (n : ℕ) → tree_of_parts p ≡ tree_view t → All (λ c. c < n) (tree_view t).colours → All (λ c. c < n) p.colours.now
 some_colours t p n e h = subst (λ (g : DecoratedTree). All (λ c. c < n) g.colours) (sym e) h
+
+-- ---- what the calls of a shape answer about a tree is enough
+joined : (a b : Bool) → a ≡ true → b ≡ true → (a && b) ≡ true
+joined a b h k = ap (λ x. x && b) h ∙ k
+
+same_test : (a b : ℕ) → a ≡ b → (a == b) ≡ true
+same_test a b h = grind (h, arith, nat_tests)
+
+pub some_tree : (s : TreeShape) (t : Tree) → s.degree ≤ 10 → s.marks ≤ 12 → t.m ≡ s.marks → IsTrue (is_padded t) → IsTrue (is_decorated s (tree_view t)) → IsSomeTree t
+some_tree s t few marks m padded decorated =
+    (s, few, marks, joined _ (is_decorated s (tree_view t)) (joined (t.m == s.marks) (is_padded t) (same_test t.m s.marks m) padded) decorated)
+
+pub within_rank : (s : TreeShape) (t : Tree) (count : ℕ) → s.rank + 1 ≡ count → IsTrue (is_decorated s (tree_view t)) → All (λ c. c < count) (tree_view t).colours
+within_rank s t count e h =
+    let d = parts s (tree_view t) h in
+    λ k c lt. (let one = at_most_by (get_or (tree_view t).colours k c) s.rank (AllPass-from_list_all (λ x. nat_le x s.rank) (tree_view t).colours d.colours_within k c lt) in omega (arith, one, e))
