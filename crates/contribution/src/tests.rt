@@ -1,6 +1,7 @@
 //! Contributions by exact fractions, whose tops and bottoms were computed as whole numbers of any size.
 
 use super::*;
+use decorated_tree::Shape;
 use residue::{Class, Modulus, Power, Powers, Setup, Term, Terms};
 use std::alloc::Global;
 use std::test::Fail;
@@ -166,5 +167,46 @@ fn several_terms_and_psi_classes(rt: HostRuntime) -> Result<(), Fail> {
         Some(0),
         "no term"
     );
+    Ok(())
+}
+
+fn at_number(
+    rt: &impl std::process::Abort,
+    setup: &Setup,
+    terms: &Terms,
+    shape: &Shape,
+    k: u64,
+    modulus: &Modulus,
+) -> Result<u64, Fail> {
+    assert!(rt; shape.d() <= 10 && shape.m() <= 12);
+    if shape.r() != setup.rank() || k >= shape.count() {
+        return Err("no such tree".into());
+    }
+    let tree = shape.tree(k);
+    assert!(rt; are_terms_for(terms, tree.m));
+    Ok(tree_contribution(setup, terms, &tree, modulus)?)
+}
+
+#[test]
+fn all_trees_of_degree_two(rt: HostRuntime) -> Result<(), Fail> {
+    let alloc = rt.alloc();
+    let shape = Shape::new(1, 2, 0).ok().ok_or("refused")?;
+    let setup = Setup::new(&[1, 3])?;
+    let modulus = Modulus::new(101)?;
+    let terms = Terms::of(vec![in alloc; term(alloc, 1, &[power(Class::R1 { k: 1 }, 2)])?]?);
+    // -1/4, 1/48 and 9/48, which add up to 1/8.
+    for (k, residue) in [
+        (0, 25),
+        (1, 25),
+        (2, 40),
+        (3, 57),
+        (4, 57),
+        (5, 40),
+        (6, 57),
+        (7, 40),
+    ] {
+        let found = at_number(&rt, &setup, &terms, &shape, k, &modulus)?;
+        assert_eq!(rt; found, residue, "tree {k}");
+    }
     Ok(())
 }
