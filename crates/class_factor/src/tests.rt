@@ -1,6 +1,7 @@
 //! Values by exact fractions, whose tops and bottoms were computed as whole numbers of any size.
 
 use super::*;
+use decorated_tree::Shape;
 use residue::{Class, Modulus, Power, Powers, Setup, Term};
 use std::process::Abort;
 use std::test::Fail;
@@ -404,6 +405,57 @@ fn values_of_terms(rt: HostRuntime) -> Result<(), Fail> {
             .residue(&modulus)
             .ok();
         assert_eq!(rt; found, residue, "{coefficient} modulo {}", modulus.get());
+    }
+    Ok(())
+}
+
+fn at_number(
+    rt: &impl Abort,
+    setup: &Setup,
+    term: &Term,
+    shape: &Shape,
+    k: u64,
+    modulus: &Modulus,
+) -> Result<(u64, u64), Fail> {
+    assert!(rt; shape.d() <= 10 && shape.m() <= 12);
+    if shape.r() != setup.rank() || k >= shape.count() {
+        return Err("no such tree".into());
+    }
+    let tree = shape.tree(k);
+    assert!(rt; are_powers_for(term.classes.as_slice(), tree.m));
+    assert!(rt; is_class_for(&R1, tree.m));
+    let of_class = whole_part(setup, &R1, &tree, modulus)?;
+    let of_term = term_value(setup, term, &tree, modulus)?;
+    Ok((of_class, of_term))
+}
+
+#[test]
+fn all_trees_of_degree_two(rt: HostRuntime) -> Result<(), Fail> {
+    let alloc = rt.alloc();
+    let shape = Shape::new(1, 2, 0).ok().ok_or("refused")?;
+    let setup = Setup::new(&[1, 3])?;
+    let modulus = Modulus::new(101)?;
+    let square = Power {
+        class: R1,
+        power: 2,
+    };
+    let term = Term {
+        coefficient: 2,
+        classes: Powers::of(vec![in alloc; square]?),
+    };
+    // -2 at an edge of degree 2, and -1 or -3 at the vertex in the middle of two edges.
+    for (k, of_class, of_term) in [
+        (0, 99, 8),
+        (1, 99, 8),
+        (2, 100, 2),
+        (3, 98, 18),
+        (4, 98, 18),
+        (5, 100, 2),
+        (6, 98, 18),
+        (7, 100, 2),
+    ] {
+        let found = at_number(&rt, &setup, &term, &shape, k, &modulus)?;
+        assert_eq!(rt; found, (of_class, of_term), "tree {k}");
     }
     Ok(())
 }
