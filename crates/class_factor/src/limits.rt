@@ -1,7 +1,7 @@
 //! Tests of whether classes are within their limits.
 
 ghost use Rattle.std.specs.Prelude.{◌↔◌, IsTrue, All};
-ghost use Rattle.class_factor.specs.Limits.{IsClassFor, IsPowerFor};
+ghost use Rattle.residue.specs.Classes.{IsClassFor, IsPowerFor};
 
 use residue::{Class, Power};
 

@@ -5,7 +5,7 @@ ghost use Rattle.arithmetic.specs.Fractions.{product_of_fractions};
 ghost use Rattle.residue.specs.Ratios.{IsRatioOf};
 ghost use Rattle.tree_parts.specs.Parts.{tree_of_parts, AreParts};
 ghost use Rattle.localisation.specs.ClassValue.{term_value};
-ghost use Rattle.class_factor.specs.Limits.{IsPowerFor};
+ghost use Rattle.residue.specs.Classes.{IsPowerFor};
 ghost use Rattle.class_factor.specs.Powers.{value_of_powers};
 
 use crate::whole::whole_ratio;

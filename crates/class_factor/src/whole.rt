@@ -7,7 +7,7 @@ ghost use Rattle.localisation.specs.ClassValue.{class_edge, class_value, inciden
 ghost use Rattle.residue.specs.Degrees.{HasParameterWithinLimit};
 ghost use Rattle.residue.specs.Ratios.{IsRatioOf};
 ghost use Rattle.tree_parts.specs.Parts.{tree_of_parts, AreParts};
-ghost use Rattle.class_factor.specs.Limits.{IsClassFor};
+ghost use Rattle.residue.specs.Classes.{IsClassFor};
 ghost use Rattle.class_factor.specs.Vertices.{class_at_vertex};
 
 use crate::at_edge::edge_part_ratio;

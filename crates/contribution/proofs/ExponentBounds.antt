@@ -7,7 +7,7 @@ use Rattle.residue.specs.declared.class.Class.{Class}
 use Rattle.residue.specs.declared.class.Class.TheVariants.{Mark, Hypersurface, Incidence, R1, Contact, Psi}
 use Rattle.residue.specs.declared.class.Power.{Power}
 use Rattle.residue.specs.declared.class.Term.{Term}
-use Rattle.class_factor.specs.Limits.{IsPowerFor}
+use Rattle.residue.specs.Classes.{IsPowerFor}
 use Rattle.contribution.specs.Terms.{IsTermFor, IsBoundedTerm}
 use Rattle.localisation.specs.ClassValue.{psi_power}
 

@@ -7,7 +7,7 @@ use Rattle.residue.specs.declared.class.Term.{Term}
 use Rattle.localisation.specs.VertexFraction.{vertex_fraction}
 use Rattle.localisation.specs.ClassValue.{colour_of, ends_at, exponents_at, exponent_of}
 use Rattle.localisation.specs.Contribution.{term_factor}
-use Rattle.class_factor.specs.Limits.{IsPowerFor}
+use Rattle.residue.specs.Classes.{IsPowerFor}
 
 -- each class of a term is within its limits for m marks, and the exponent of each mark is at most 151
 pub record IsTermFor (m : ℕ) (term : Term) : Type 0 where

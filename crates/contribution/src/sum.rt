@@ -8,7 +8,7 @@ ghost use Rattle.localisation.specs.Contribution.{contribution, vertex_factors, 
 ghost use Rattle.residue.specs.Answers.{GivesResidue};
 ghost use Rattle.residue.specs.Ratios.{IsRatioOf};
 ghost use Rattle.tree_parts.specs.Parts.{tree_of_parts, AreParts, HasEnds};
-ghost use Rattle.class_factor.specs.Limits.{IsPowerFor};
+ghost use Rattle.residue.specs.Classes.{IsPowerFor};
 ghost use Rattle.contribution.specs.Terms.{sum_of_terms, vertex_at, IsTermFor};
 
 use crate::exponents::exponents_at;

@@ -8,10 +8,9 @@ use Rattle.trees.specs.Edges.{is_tree}
 use Rattle.trees.specs.Decorated.{TreeShape, ends_differ}
 use Rattle.trees.specs.Words.{encoded}
 use Rattle.trees.specs.Walks.{walk_in, digits_of, place_of}
-use Rattle.trees.specs.Numbering.{AreDigits, joined, rank_of}
+use Rattle.trees.specs.Numbering.{AreDegrees, AreDigits, joined, rank_of}
 use Rattle.trees.specs.Numbers.{bases, trees_from, tree_count, tree_of, number_of, digits_by}
 use Rattle.trees.proofs.AllTrees.{both, IsDecorated, parts, decorated_from}
-use Rattle.trees.proofs.DegreeRanks.{AreDegrees}
 use Rattle.trees.proofs.TreeDigits.{digits_with, digits_by_digits}
 use Rattle.trees.proofs.NumberLaws.{number_of_below, tree_of-number_of}
 use Rattle.decorated_tree.specs.declared.tree.Tree.{Tree}

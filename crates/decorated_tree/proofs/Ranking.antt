@@ -5,9 +5,9 @@ use Rattle.std.proofs.lemmas.List.{length-take-le}
 use Rattle.std.proofs.lemmas.List.Sums.{sum_by-cons}
 use Rattle.std.proofs.Math.Seq.{set-append_seam}
 use Rattle.prufer.specs.Padding.{padded}
-use Rattle.trees.specs.Numbering.{degree_lists, choose, rank_of, lists_passed}
+use Rattle.trees.specs.Numbering.{AreDegrees, degree_lists, choose, rank_of, lists_passed}
 use Rattle.trees.proofs.AllTrees.{both}
-use Rattle.trees.proofs.DegreeRanks.{AreDegrees, ranked}
+use Rattle.trees.proofs.DegreeRanks.{ranked}
 
 -- ---- binomials
 pascal : (n k : ℕ) → 1 ≤ n → 1 ≤ k → choose n k ≡ choose (n - 1) (k - 1) + choose (n - 1) k

@@ -1,8 +1,7 @@
 //! Lists of degrees, and their ranks among all lists of so many positive numbers with the same sum.
 
 ghost use Rattle.std.specs.Prelude.{◌≡◌, ℕ, ◌+◌, ◌-◌, ◌*◌, ◌<◌, ◌≤◌, [], ◌++◌, length, get_or, replicate, List};
-ghost use Rattle.trees.specs.Numbering.{choose, degree_lists, rank_of, lists_passed};
-ghost use Rattle.trees.proofs.DegreeRanks.{AreDegrees};
+ghost use Rattle.trees.specs.Numbering.{AreDegrees, choose, degree_lists, rank_of, lists_passed};
 ghost use Rattle.prufer.specs.Padding.{padded};
 
 use crate::bases::choose;

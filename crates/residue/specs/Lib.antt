@@ -1,4 +1,5 @@
 pub mod Answers
+pub mod Classes
 pub mod Degrees
 pub mod Limits
 pub mod Montgomery

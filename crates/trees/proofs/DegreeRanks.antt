@@ -4,16 +4,10 @@ use Rattle.std.specs.List.{list_all}
 use Rattle.std.proofs.lemmas.List.Sums.{sum_by-cons}
 use Rattle.trees.specs.Edges.{below}
 use Rattle.trees.specs.Decorated.{counted_from}
-use Rattle.trees.specs.Numbering.{degree_lists, choose, rank_of}
+use Rattle.trees.specs.Numbering.{AreDegrees, degree_lists, choose, rank_of}
 use Rattle.trees.proofs.Listed.{IsIn, here, there, nothing_in, in_cons, in_map, in_flat_map, from_flat_map, ComesFrom}
 use Rattle.trees.proofs.AllTrees.{both, each_of, in_below, in_counted_from, from_map}
 use Rattle.trees.proofs.NumberingLaws.{ranks_from, all_ranks}
-
--- so many positive numbers with the sum d
-pub record AreDegrees (k d : ℕ) (ds : List ℕ) : Type 0 where
-  pub long : length ds ≡ k
-  pub positive : list_all (λ a. nat_le 1 a) ds ≡ true
-  pub total : sum ds ≡ d
 
 from_counted : (a n x : ℕ) → IsIn x (counted_from a n) → (a ≤ x) × (x < a + n)
 from_counted a zero x i = absurd (nothing_in i)

@@ -6,7 +6,7 @@ use Rattle.std.proofs.Math.Seq.{take-append_seam, drop-append_seam, drop-append-
 use Rattle.trees.specs.Edges.{below, is_tree}
 use Rattle.trees.specs.Decorated.{DecoratedTree, TreeShape, is_decorated, ends_differ}
 use Rattle.trees.specs.Words.{decoded, encoded, decoded_on, encoded_on, Fits}
-use Rattle.trees.specs.Numbering.{AreDigits, degree_lists, rank_of}
+use Rattle.trees.specs.Numbering.{AreDegrees, AreDigits, degree_lists, rank_of}
 use Rattle.trees.specs.Numbers.{bases, tree_by, digits_by}
 use Rattle.trees.specs.Walks.{walk_in, coloured, digits_of}
 use Rattle.trees.proofs.Listed.{IsIn, here, there}
@@ -15,7 +15,7 @@ use Rattle.trees.proofs.WordLaws.{encoded_on-decoded_on, length-below, length-de
 use Rattle.trees.proofs.TreeLaws.{tree-decoded, decodes-encoded, decoded-encoded, all_from}
 use Rattle.trees.proofs.WalkedEdges.{IsTreeWalk, tree_walk}
 use Rattle.trees.proofs.ColourDigits.{AreColours, EndsApart, colours_from, digits_back, digits_from, colours_back}
-use Rattle.trees.proofs.DegreeRanks.{AreDegrees, ranked, StandsAt, place_in, in_place}
+use Rattle.trees.proofs.DegreeRanks.{ranked, StandsAt, place_in, in_place}
 use Rattle.trees.proofs.DigitParts.{AreTreeDigits, tree_digits, digits_of_tree, regroup_digits}
 
 encoded-decoded : (n : ℕ) (w : List ℕ) → length w + 2 ≡ n → Fits (below n) w → encoded n (decoded n w) ≡ w

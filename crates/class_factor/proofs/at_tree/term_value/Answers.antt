@@ -2,7 +2,7 @@ use Rattle.std.proofs.Common.{length, subst, sym, All}
 use Rattle.residue.specs.Ratios.{IsRatioOf}
 use Rattle.localisation.specs.ClassValue.{term_value}
 use Rattle.tree_parts.proofs.DecoratedParts.{some_limits, some_parts, some_marks, some_colours}
-use Rattle.class_factor.specs.Limits.{IsPowerFor}
+use Rattle.residue.specs.Classes.{IsPowerFor}
 use Rattle.class_factor.proofs.at_tree.term_value.Goals as goal
 
 pub of-parts-requires-clause-vertices_some : goal.of-parts-requires-clause-vertices_some

@@ -2,7 +2,7 @@ use Rattle.std.proofs.Common.{length, subst, sym}
 use Rattle.residue.specs.Ratios.{IsRatioOf}
 use Rattle.localisation.specs.ClassValue.{class_value}
 use Rattle.tree_parts.proofs.DecoratedParts.{some_limits, some_parts, some_marks, some_colours}
-use Rattle.class_factor.specs.Limits.{IsClassFor}
+use Rattle.residue.specs.Classes.{IsClassFor}
 use Rattle.class_factor.proofs.at_tree.whole_part.Goals as goal
 
 pub of-parts-requires-clause-vertices_some : goal.of-parts-requires-clause-vertices_some
