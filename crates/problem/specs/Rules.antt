@@ -1,6 +1,5 @@
 -- What a problem is, and the rules that it keeps.
-use Rattle.std.specs.Prelude.{◌≡◌, ℕ, ◌+◌, ◌-◌, ◌*◌, ◌^◌, ◌<◌, ◌≤◌, ℤ, unsigned_abs, List, [], ◌∷◌, length, sum_by, All, slice_index, true}
-use Rattle.arithmetic.specs.Numbers.{gcd}
+use Rattle.std.specs.Prelude.{◌≡◌, ℕ, ◌+◌, ◌-◌, ◌*◌, ◌^◌, ◌<◌, ◌≤◌, ℤ, unsigned_abs, List, [], ◌∷◌, length, sum_by, All, true}
 use Rattle.trees.specs.Decorated.{TreeShape}
 use Rattle.trees.specs.Numbers.{tree_count}
 use Rattle.trees.specs.Numbering.{product_of}
@@ -8,6 +7,7 @@ use Rattle.decorated_tree.specs.Shapes.{within_limits}
 use Rattle.residue.specs.Classes.{IsClassFor}
 use Rattle.residue.specs.Degrees.{class_degree}
 use Rattle.residue.specs.Limits.{IsModulus, AreWeights}
+use Rattle.recover_fraction.specs.CommonResidues.{ArePairwiseCoprime}
 use Rattle.residue.specs.declared.class.Power.{Power}
 use Rattle.residue.specs.declared.class.Term.{Term}
 
@@ -54,10 +54,6 @@ pub record IsTermOf (s : TreeShape) (t : Term) : Type 0 where
 pub record IsIntegralOf (s : TreeShape) (terms : List Term) : Type 0 where
   pub some : 1 ≤ length terms
   pub each : All (IsTermOf s) terms
-
--- no two of the numbers have a common divisor above 1
-abbrev pub ArePairwiseCoprime : List ℕ → Type 0
-ArePairwiseCoprime ms = (i j : ℕ) → i < j → j < length ms → gcd (slice_index ms i) (slice_index ms j) ≡ 1
 
 -- 1 to 8 moduli, pairwise coprime, with a product below 2^126
 pub record AreModuli (ms : List ℕ) : Type 0 where
