@@ -5,7 +5,7 @@ use Rattle.std.proofs.lemmas.List.{get_or-append-add, length-append, length-drop
 use Rattle.std.proofs.lemmas.List.Elements.{All-from_get_or, All-same}
 use Rattle.std.proofs.lemmas.Bool.{cases_eq}
 use Rattle.std.proofs.Math.Seq.{take-append_seam, drop-append_seam, drop-append-add, get_or-append_seam}
-use Rattle.prufer.specs.Padding.{padded}
+use Rattle.trees.specs.Padding.{padded}
 use Rattle.trees.specs.Decorated.{TreeShape, DecoratedTree}
 use Rattle.trees.specs.Words.{is_member, decoded}
 use Rattle.trees.specs.Numbering.{AreDigits, choose, split, degree_lists}

@@ -4,7 +4,7 @@ use Rattle.std.specs.List.{list_all}
 use Rattle.std.proofs.lemmas.List.{length-take-le}
 use Rattle.std.proofs.lemmas.List.Sums.{sum_by-cons}
 use Rattle.std.proofs.Math.Seq.{set-append_seam}
-use Rattle.prufer.specs.Padding.{padded}
+use Rattle.trees.specs.Padding.{padded}
 use Rattle.trees.specs.Numbering.{AreDegrees, degree_lists, choose, rank_of, lists_passed}
 use Rattle.trees.proofs.AllTrees.{both}
 use Rattle.trees.proofs.DegreeRanks.{ranked}

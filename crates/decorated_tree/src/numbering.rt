@@ -8,7 +8,7 @@ ghost use Rattle.trees.specs.Numbering.{AreDigits, split};
 ghost use Rattle.trees.specs.Numbers.{bases, trees_with, trees_from, tree_count, tree_by, tree_of, number_of};
 ghost use Rattle.trees.specs.Walks.{walk_in, coloured};
 ghost use Rattle.trees.specs.Words.{decoded};
-ghost use Rattle.prufer.specs.Padding.{padded};
+ghost use Rattle.trees.specs.Padding.{padded};
 ghost use Rattle.decorated_tree.specs.Shapes.{within_limits};
 ghost use Rattle.decorated_tree.specs.Trees.{tree_view, is_padded};
 

@@ -2,7 +2,7 @@
 
 ghost use Rattle.std.specs.Prelude.{◌≡◌, ℕ, ◌+◌, ◌-◌, ◌*◌, ◌<◌, ◌≤◌, [], ◌++◌, length, get_or, replicate, List};
 ghost use Rattle.trees.specs.Numbering.{AreDegrees, choose, degree_lists, rank_of, lists_passed};
-ghost use Rattle.prufer.specs.Padding.{padded};
+ghost use Rattle.trees.specs.Padding.{padded};
 
 use crate::bases::choose;
 

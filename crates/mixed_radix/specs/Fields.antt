@@ -2,14 +2,14 @@
 use Rattle.std.specs.Prelude.{◌≡◌, ℕ, List, length, take}
 use Rattle.std.proofs.Common.{sym}
 use Rattle.trees.specs.Numbering.{product_of}
-use Rattle.mixed_radix.specs.Padding.{padded, IsPadded, length-front, padded-take}
+use Rattle.trees.specs.Padding.{padded, IsPadded, length-front, padded-take}
 use Rattle.mixed_radix.specs.declared.Radix.TheInside.{Inside}
 
 abbrev pub fields_of : List ℕ → Inside
-fields_of bases = record { bases = padded 40 bases; count = length bases; size = product_of bases }
+fields_of bases = record { bases = padded 0 40 bases; count = length bases; size = product_of bases }
 
-pub fields_of-take : (r : Inside) → IsPadded 40 r.count r.bases → r.size ≡ product_of (take r.count r.bases) → fields_of (take r.count r.bases) ≡ r
-fields_of-take r h s = same _ _ _ (padded-take 40 r.count r.bases h) (length-front 40 r.count r.bases h) (sym s)
+pub fields_of-take : (r : Inside) → IsPadded 0 40 r.count r.bases → r.size ≡ product_of (take r.count r.bases) → fields_of (take r.count r.bases) ≡ r
+fields_of-take r h s = same _ _ _ (padded-take 0 40 r.count r.bases h) (length-front 0 40 r.count r.bases h) (sym s)
   where
     make : List ℕ → ℕ → ℕ → Inside
     make bases count size = record { bases = bases; count = count; size = size }

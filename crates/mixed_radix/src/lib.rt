@@ -40,7 +40,7 @@ pub struct Radix {
 impl Model for Radix {
     ghost use Rattle.std.specs.Prelude.{◌≡◌, ℕ, ◌^◌, ◌<◌, ◌≤◌, List, take};
     ghost use Rattle.trees.specs.Numbering.{product_of};
-    ghost use Rattle.mixed_radix.specs.Padding.{IsPadded};
+    ghost use Rattle.trees.specs.Padding.{IsPadded};
 
     ghost Value = { List ℕ };
 
@@ -48,7 +48,7 @@ impl Model for Radix {
 
     ghost view = { λ r. take r.count r.bases };
 
-    ghost invariant = { λ r. IsPadded 40 r.count r.bases × (r.size ≡ product_of (take r.count r.bases))
+    ghost invariant = { λ r. IsPadded 0 40 r.count r.bases × (r.size ≡ product_of (take r.count r.bases))
         × (0 < r.size) × (r.size ≤ 2 ^ 40) };
 
     ghost inverse = { fields_of };

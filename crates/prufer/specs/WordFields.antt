@@ -1,6 +1,6 @@
 -- The fields of a `Word`, given back by its letters.
 use Rattle.std.specs.Prelude.{◌≡◌, ℕ, List, length, take}
-use Rattle.prufer.specs.Padding.{padded, IsPadded, length-front, padded-take}
+use Rattle.trees.specs.Padding.{padded, IsPadded, length-front, padded-take}
 use Rattle.prufer.specs.declared.word.Word.TheInside.{Inside}
 
 abbrev pub fields_of : List ℕ → Inside

@@ -16,7 +16,7 @@ pub struct Word {
 
 impl Model for Word {
     ghost use Rattle.std.specs.Prelude.{ℕ, List, take};
-    ghost use Rattle.prufer.specs.Padding.{IsPadded};
+    ghost use Rattle.trees.specs.Padding.{IsPadded};
 
     ghost Value = { List ℕ };
 

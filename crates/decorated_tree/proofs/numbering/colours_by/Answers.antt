@@ -1,6 +1,6 @@
 use Rattle.std.proofs.Common.{◌≡◌, ℕ, List, [], ◌∷◌, ◌++◌, take, drop, ap, ◌∙◌, refl, length, replicate}
 use Rattle.std.proofs.Math.Seq.{take-append_seam}
-use Rattle.prufer.specs.Padding.{padded}
+use Rattle.trees.specs.Padding.{padded}
 use Rattle.trees.specs.Walks.{walk_in, coloured}
 use Rattle.decorated_tree.proofs.Places.{coloured_places, length-coloured}
 use Rattle.decorated_tree.proofs.numbering.colours_by.Goals as goal

@@ -1,5 +1,5 @@
 use Rattle.std.proofs.Common.{◌≡◌, ◌-◌, set, get_or, [], subst, arith, refl}
-use Rattle.prufer.specs.Padding.{padded}
+use Rattle.trees.specs.Padding.{padded}
 use Rattle.trees.specs.Numbering.{degree_lists}
 use Rattle.decorated_tree.proofs.Ranking.{made_step, made_end}
 use Rattle.decorated_tree.proofs.ranks.degrees_of_rank.Goals as goal

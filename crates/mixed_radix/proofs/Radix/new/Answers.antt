@@ -2,10 +2,10 @@ use Rattle.std.proofs.Common.{◌≡◌, ◌≤◌, ◌++◌, ℕ, List, length,
 use Rattle.std.proofs.lemmas.List.{drop-replicate}
 use Rattle.mixed_radix.proofs.Places.{product-first_zero, product_positive}
 use Rattle.trees.specs.Numbering.{product_of}
-use Rattle.mixed_radix.specs.Padding.{padded, padded_array, take-padded_array}
+use Rattle.trees.specs.Padding.{padded, padded_array, take-padded_array}
 use Rattle.mixed_radix.proofs.Radix.new.Goals as goal
 
-padded_zeros : (n : ℕ) (xs ys zeros : List ℕ) → length xs ≤ n → ys ≡ xs → zeros ≡ replicate n 0 → ys ++ drop (length xs) zeros ≡ padded n xs
+padded_zeros : (n : ℕ) (xs ys zeros : List ℕ) → length xs ≤ n → ys ≡ xs → zeros ≡ replicate n 0 → ys ++ drop (length xs) zeros ≡ padded 0 n xs
 padded_zeros n xs ys zeros h e z = ap (λ l. l ++ drop (length xs) zeros) e ∙ ap (λ l. xs ++ drop (length xs) l) z ∙ ap (λ l. xs ++ l) (drop-replicate (length xs) n 0)
 
 pub returns-in-Some-clause-too_large : goal.returns-in-Some-clause-too_large
@@ -21,8 +21,8 @@ invariant_of-result c =
     let copied = padded_zeros 40 bases _ _ c.if-bases-gt-MOST_BASES.false c.copy_from_slice.ensures.after refl in
     let some = c.in-Some-product.ensures.some in
     let positive = product_positive bases c.in_default.ensures in (
-      padded_array 40 bases _ c.if-bases-gt-MOST_BASES.false copied,
-      some ∙ ap product_of (sym (take-padded_array 40 bases _ copied)),
+      padded_array 0 40 bases _ c.if-bases-gt-MOST_BASES.false copied,
+      some ∙ ap product_of (sym (take-padded_array 0 40 bases _ copied)),
       rw some positive,
       c.in-Some-product.ensures.limited,
     )
