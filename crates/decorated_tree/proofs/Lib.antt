@@ -6,4 +6,6 @@ pub mod Walking
 pub mod Ranking
 pub mod Places
 pub mod Fitting
-pub mod Following
+pub mod Counting
+pub mod NextDegrees
+pub mod NextTree

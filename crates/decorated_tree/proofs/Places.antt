@@ -119,7 +119,7 @@ pub record PartsAt (n : ℕ) (w cs : List ℕ) (q : ℕ) (ms ds : List ℕ) : Ty
   pub others : drop n (drop (n - 2) ds) ≡ q ∷ ms
   pub long : length ds ≡ 2 * n - 1 + length ms
 
-parts_at : (n : ℕ) (w cs : List ℕ) (q : ℕ) (ms : List ℕ) → length w + 2 ≡ n → length cs ≡ n → PartsAt n w cs q ms (w ++ (cs ++ q ∷ ms))
+pub parts_at : (n : ℕ) (w cs : List ℕ) (q : ℕ) (ms : List ℕ) → length w + 2 ≡ n → length cs ≡ n → PartsAt n w cs q ms (w ++ (cs ++ q ∷ ms))
 parts_at n w cs q ms e f =
     let ds = w ++ (cs ++ q ∷ ms) in
     let front : n - 2 ≡ length w = omega arith in

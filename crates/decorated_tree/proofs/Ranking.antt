@@ -10,7 +10,7 @@ use Rattle.trees.proofs.AllTrees.{both}
 use Rattle.trees.proofs.DegreeRanks.{ranked}
 
 -- ---- binomials
-pascal : (n k : ℕ) → 1 ≤ n → 1 ≤ k → choose n k ≡ choose (n - 1) (k - 1) + choose (n - 1) k
+pub pascal : (n k : ℕ) → 1 ≤ n → 1 ≤ k → choose n k ≡ choose (n - 1) (k - 1) + choose (n - 1) k
 pascal zero k h j = absurd (omega arith)
 pascal (suc n) zero h j = absurd (omega arith)
 pascal (suc n) (suc k) h j =
@@ -18,7 +18,7 @@ pascal (suc n) (suc k) h j =
     let b : k ≡ suc k - 1 = omega arith in
     ap (λ z. choose z k + choose z (suc k)) a ∙ ap (λ z. choose (suc n - 1) z + choose (suc n - 1) (suc k)) b
 
-choose_some : (n k : ℕ) → 0 < choose n k → k ≤ n
+pub choose_some : (n k : ℕ) → 0 < choose n k → k ≤ n
 choose_some n zero h = omega arith
 choose_some zero (suc k) h = absurd (omega arith)
 choose_some (suc n) (suc k) h = by (choose n k) refl (choose_some n (suc k)) (choose_some n k)
@@ -27,7 +27,7 @@ choose_some (suc n) (suc k) h = by (choose n k) refl (choose_some n (suc k)) (ch
     by zero e f g = let l = f (omega arith) in omega arith
     by (suc z) e f g = let l = g (omega arith) in omega arith
 
-passed-more : (d n b : ℕ) → 1 ≤ b → lists_passed d n b ≡ lists_passed d n (b - 1) + choose (d - b - 1) (n - 1)
+pub passed-more : (d n b : ℕ) → 1 ≤ b → lists_passed d n b ≡ lists_passed d n (b - 1) + choose (d - b - 1) (n - 1)
 passed-more d n zero h = absurd (omega arith)
 passed-more d n (suc b) h =
     let a : b ≡ suc b - 1 = omega arith in
@@ -97,7 +97,7 @@ rank-first f left k (b ∷ ds) e h = ap (λ z. lists_passed left z (f - 1) + ran
 join : (a b : Bool) → a ≡ true → b ≡ true → (a && b) ≡ true
 join a b h k = grind arith
 
-degrees-cons : (k left f : ℕ) (tail : List ℕ) → 1 ≤ f → f ≤ left → AreDegrees k (left - f) tail → AreDegrees (suc k) left (f ∷ tail)
+pub degrees-cons : (k left f : ℕ) (tail : List ℕ) → 1 ≤ f → f ≤ left → AreDegrees k (left - f) tail → AreDegrees (suc k) left (f ∷ tail)
 degrees-cons k left f tail h l a = record {
   long = ap suc a.long;
   positive = join (nat_le 1 f) (list_all (λ a. nat_le 1 a) tail) (le-leb 1 f h) a.positive;

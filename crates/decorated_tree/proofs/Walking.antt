@@ -67,6 +67,7 @@ within_along n es (s ∷ walk) h a =
 
 -- what is known of the walk of a tree
 pub record TreeWalk (n : ℕ) (es : List (ℕ × ℕ)) : Type 0 where
+  pub few : length (walk_in n es (0 ∷ [])) + 1 ≤ n
   pub short : length (walk_in n es (0 ∷ [])) ≤ 10
   pub within : AreWithin n (walk_in n es (0 ∷ []))
   pub ends : (i : ℕ) → i < length es → ((get_or es i (0, 0)).0 < n) × ((get_or es i (0, 0)).1 < n)
@@ -80,6 +81,7 @@ walk_of_tree n es most t =
     let w = tree_walk n es t in
     let short = walk_short n (walk_in n es (0 ∷ [])) (omega arith) w.walks w.within in
     record {
+      few = short;
       short = omega arith;
       within = within_along n es (walk_in n es (0 ∷ [])) set.1 w.along;
       ends = λ i h. pair (get_or es i (0, 0)).0 (get_or es i (0, 0)).1 (each_of (λ e. nat_lt e.0 e.1 && nat_lt e.1 n) es set.1 (in_place es (0, 0) i h));
@@ -253,6 +255,19 @@ walked n es rounds walk marks e w = let v = subst (λ k. IsWalking n es k [] wal
     none : (l : List (ℕ × ℕ)) → l ≡ l ++ []
     none [] = refl
     none (x ∷ l) = ap (λ r. x ∷ r) (none l)
+
+-- where all vertices are reached, later rounds add nothing
+pub walked_all : (n : ℕ) (es : List (ℕ × ℕ)) (rounds : ℕ) (walk : List (ℕ × ℕ)) (marks : List Bool) → n ≤ 11 → is_tree n es ≡ true → n ≤ length walk + 1
+    → IsWalking n es rounds [] walk marks → walk ≡ walk_in n es (0 ∷ [])
+walked_all n es rounds walk marks most t all w = alone (walk_in rounds es (after walk (0 ∷ []))) w.whole (walk_of_tree n es most t).few
+  where
+    none : (l : List (ℕ × ℕ)) → l ≡ l ++ []
+    none [] = refl
+    none (x ∷ l) = ap (λ r. x ∷ r) (none l)
+
+    alone : (tail : List (ℕ × ℕ)) → walk ++ tail ≡ walk_in n es (0 ∷ []) → length (walk_in n es (0 ∷ [])) + 1 ≤ n → walk ≡ walk_in n es (0 ∷ [])
+    alone [] e few = none walk ∙ e
+    alone (x ∷ tail) e few = absurd (let l = length-append walk (x ∷ tail) in let m = ap length e in omega arith)
 
 -- ---- colours and digits along a walk, one step after the other
 pub within_at : (n : ℕ) (walk : List (ℕ × ℕ)) (i : ℕ) → AreWithin n walk → i < length walk → ((get_or walk i (0, 0)).0 < n) × ((get_or walk i (0, 0)).1 < n)

@@ -4,3 +4,4 @@ pub mod ShapeFields
 pub mod Trees
 pub mod Steps
 pub mod Growth
+pub mod Following

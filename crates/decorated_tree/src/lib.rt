@@ -9,6 +9,7 @@
 #![tactic(auto)]
 
 mod bases;
+mod following;
 mod number;
 mod numbering;
 mod numbers;

@@ -47,30 +47,6 @@ impl Shape {
         self.tree_by(n, used)
     }
 
-    /// Goes on from the tree of the number `k` to that of `k` + 1, which is below [`Shape::count`]. It takes no memory.
-    ///
-    /// Where the vertex of the last mark can go on by one, nothing else changes.
-    pub fn next(&self, k: u64, tree: &mut Tree)
-        requires more { k + 1 < tree_count self.now }
-        requires tree { tree_view tree.old ≡ tree_of self.now k }
-        requires marks { tree.old.m ≡ self.now.marks }
-        requires padded { IsTrue (is_padded tree.old) }
-        ensures value { tree_view tree.new ≡ tree_of self.now (k + 1) }
-        ensures decorated { IsTrue (is_decorated self.now (tree_view tree.new)) }
-        ensures listed { IsIn (tree_view tree.new) (all_trees self.now) }
-        ensures number { number_of self.now (tree_view tree.new) ≡ k + 1 }
-        ensures marks { tree.new.m ≡ self.now.marks }
-        ensures padded { IsTrue (is_padded tree.new) }
-    {
-        prove!(k < self.count());
-        let m = self.m() as usize;
-        if m > 0 && tree.marks[m - 1] < tree.n.saturating_sub(1) {
-            tree.marks[m - 1] += 1;
-            return;
-        }
-        *tree = self.tree(k + 1);
-    }
-
     /// Where the tree of the number `k` stands.
     fn place(&self, k: u64) -> Place
         requires { k < tree_count self.now }

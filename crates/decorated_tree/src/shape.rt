@@ -127,6 +127,7 @@ impl Shape {
     pub fn count(&self) -> u64
         ensures value { result ≡ tree_count self.now }
         ensures limited { result ≤ 2 ^ 40 }
+        ensures shape { within_limits self.now ≡ true }
     {
         self.count
     }

@@ -53,7 +53,8 @@ impl Walk {
     }
 }
 
-/// The walk from vertex 0 through a tree on the vertices 0 to `n` - 1, in rounds over the edges in their order.
+/// The walk from vertex 0 through a tree on the vertices 0 to `n` - 1, in rounds over the edges in their order, until all
+/// vertices are reached.
 pub(crate) fn walk_from_zero(n: u8, edges: &[(u8, u8)]) -> Walk
     requires most { n ≤ 11 }
     requires tree { IsTrue (is_tree n edges.now) }
@@ -64,6 +65,9 @@ pub(crate) fn walk_from_zero(n: u8, edges: &[(u8, u8)]) -> Walk
     let mut there = [false; 11];
     there[0] = true;
     for _ in 0..n {
+        if walk.as_slice().len() + 1 >= n as usize {
+            return walk;
+        }
         for edge in edges {
             let ends = (there[edge.0 as usize], there[edge.1 as usize]);
             if let Some(step) = step_along(*edge, ends.0, ends.1) {

@@ -1,48 +1,32 @@
-use Rattle.std.proofs.Common.{◌≡◌, ◌+◌, ◌-◌, ◌<◌, ap, sym, ◌∙◌, subst, true, arith, length, get_or}
-use Rattle.trees.specs.Decorated.{is_decorated, all_trees}
+use Rattle.std.proofs.Common.{◌+◌, sym, subst, arith}
+use Rattle.trees.specs.Decorated.{all_trees}
 use Rattle.trees.specs.Members.{IsIn}
-use Rattle.trees.specs.Numbers.{number_of}
-use Rattle.trees.proofs.NumberLaws.{tree_of_decorated, tree_of_in_all_trees, number_of-tree_of}
+use Rattle.trees.proofs.NumberLaws.{tree_of_in_all_trees}
 use Rattle.decorated_tree.proofs.Counts.{limits}
-use Rattle.decorated_tree.proofs.Following.{next_by_mark}
+use Rattle.decorated_tree.proofs.NextTree.{decorated_before, number_after, tree_after}
 use Rattle.decorated_tree.proofs.shape.Shape.next.Goals as goal
 
-pub returns-then-tree-m-clause-value : goal.returns-then-tree-m-clause-value
-returns-then-tree-m-clause-value c =
-    let l = limits c.args.self.now.rank c.args.self.now.degree c.args.self.now.marks c.m-m.ensures.shape in
-    let degree = l.most_degree in
+pub step-requires-clause-decorated : goal.step-requires-clause-decorated
+step-requires-clause-decorated c =
     let more = c.requires.more in
-    let less : get_or c.args.tree.now.marks (c.m-m.result - 1) 0 < c.args.tree.now.n - 1 = (let t = c.if-tree-m.true in let e = c.saturating_sub.ensures in omega arith) in
-    let view = (next_by_mark c.args.self.now c.args.k c.args.tree.now c.m-m.result (omega arith) (omega arith) c.requires.tree c.requires.padded (c.requires.marks ∙ sym c.m-m.ensures.value)
-    c.m-m.ensures.most (let long : length c.args.tree.now.marks ≡ 12 = omega arith in long) c.if-m-gt0.true less).view in
-    view
+    decorated_before c.args.self.now c.args.k c.args.tree.now (let l = limits c.args.self.now.rank c.args.self.now.degree c.args.self.now.marks c.count.ensures.shape in let most = l.most_degree in omega arith) (omega arith) c.requires.tree
 
-pub returns-then-tree-m-clause-decorated : goal.returns-then-tree-m-clause-decorated
-returns-then-tree-m-clause-decorated c =
-    let l = limits c.args.self.now.rank c.args.self.now.degree c.args.self.now.marks c.m-m.ensures.shape in
-    let degree = l.most_degree in
+pub returns-else-not-step-clause-value : goal.returns-else-not-step-clause-value
+returns-else-not-step-clause-value c =
     let more = c.requires.more in
-    let less : get_or c.args.tree.now.marks (c.m-m.result - 1) 0 < c.args.tree.now.n - 1 = (let t = c.if-tree-m.true in let e = c.saturating_sub.ensures in omega arith) in
-    let view = (next_by_mark c.args.self.now c.args.k c.args.tree.now c.m-m.result (omega arith) (omega arith) c.requires.tree c.requires.padded (c.requires.marks ∙ sym c.m-m.ensures.value)
-    c.m-m.ensures.most (let long : length c.args.tree.now.marks ≡ 12 = omega arith in long) c.if-m-gt0.true less).view in
-    subst (λ g. is_decorated c.args.self.now g ≡ true) (sym view) (tree_of_decorated c.args.self.now (c.args.k + 1) (omega arith) more)
+    tree_after c.args.self.now c.args.k c.args.tree.now c.step.new.tree (let l = limits c.args.self.now.rank c.args.self.now.degree c.args.self.now.marks c.count.ensures.shape in let most = l.most_degree in omega arith) (omega arith) c.requires.tree c.if-not-step.ensures
 
-pub returns-then-tree-m-clause-listed : goal.returns-then-tree-m-clause-listed
-returns-then-tree-m-clause-listed c =
-    let l = limits c.args.self.now.rank c.args.self.now.degree c.args.self.now.marks c.m-m.ensures.shape in
-    let degree = l.most_degree in
+pub returns-else-not-step-clause-listed : goal.returns-else-not-step-clause-listed
+returns-else-not-step-clause-listed c =
     let more = c.requires.more in
-    let less : get_or c.args.tree.now.marks (c.m-m.result - 1) 0 < c.args.tree.now.n - 1 = (let t = c.if-tree-m.true in let e = c.saturating_sub.ensures in omega arith) in
-    let view = (next_by_mark c.args.self.now c.args.k c.args.tree.now c.m-m.result (omega arith) (omega arith) c.requires.tree c.requires.padded (c.requires.marks ∙ sym c.m-m.ensures.value)
-    c.m-m.ensures.most (let long : length c.args.tree.now.marks ≡ 12 = omega arith in long) c.if-m-gt0.true less).view in
-    subst (λ g. IsIn g (all_trees c.args.self.now)) (sym view) (tree_of_in_all_trees c.args.self.now (c.args.k + 1) (omega arith) more)
+    let l = limits c.args.self.now.rank c.args.self.now.degree c.args.self.now.marks c.count.ensures.shape in
+    let most = l.most_degree in
+    subst (λ g. IsIn g (all_trees c.args.self.now)) (sym (tree_after c.args.self.now c.args.k c.args.tree.now c.step.new.tree (omega arith) (omega arith) c.requires.tree c.if-not-step.ensures))
+    (tree_of_in_all_trees c.args.self.now (c.args.k + 1) (omega arith) more)
 
-pub returns-then-tree-m-clause-number : goal.returns-then-tree-m-clause-number
-returns-then-tree-m-clause-number c =
-    let l = limits c.args.self.now.rank c.args.self.now.degree c.args.self.now.marks c.m-m.ensures.shape in
-    let degree = l.most_degree in
+pub returns-else-not-step-clause-number : goal.returns-else-not-step-clause-number
+returns-else-not-step-clause-number c =
     let more = c.requires.more in
-    let less : get_or c.args.tree.now.marks (c.m-m.result - 1) 0 < c.args.tree.now.n - 1 = (let t = c.if-tree-m.true in let e = c.saturating_sub.ensures in omega arith) in
-    let view = (next_by_mark c.args.self.now c.args.k c.args.tree.now c.m-m.result (omega arith) (omega arith) c.requires.tree c.requires.padded (c.requires.marks ∙ sym c.m-m.ensures.value)
-    c.m-m.ensures.most (let long : length c.args.tree.now.marks ≡ 12 = omega arith in long) c.if-m-gt0.true less).view in
-    ap (number_of c.args.self.now) view ∙ number_of-tree_of c.args.self.now (c.args.k + 1) (omega arith) more
+    let l = limits c.args.self.now.rank c.args.self.now.degree c.args.self.now.marks c.count.ensures.shape in
+    let most = l.most_degree in
+    number_after c.args.self.now c.args.k c.args.tree.now c.step.new.tree (omega arith) (omega arith) c.requires.tree c.if-not-step.ensures

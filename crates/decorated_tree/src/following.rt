@@ -1,0 +1,150 @@
+//! The tree after a tree, made in place.
+//!
+//! The digits of a number of a tree go on as those of a counter: the marks first, then the degrees, then the colours.
+//! Only where all of these go back to their first values does the next tree have other edges.
+
+ghost use Rattle.std.specs.Prelude.{◌≡◌, ℕ, ◌+◌, ◌-◌, ◌<◌, ◌≤◌, [], ◌∷◌, length, replicate, IsTrue};
+ghost use Rattle.std.specs.Bool.{OnTrue};
+ghost use Rattle.trees.specs.Edges.{is_tree};
+ghost use Rattle.trees.specs.Decorated.{all_trees, is_decorated};
+ghost use Rattle.trees.specs.Members.{IsIn};
+ghost use Rattle.trees.specs.Numbering.{AreDigits, AreDegrees};
+ghost use Rattle.trees.specs.Numbers.{tree_count, tree_of, number_of};
+ghost use Rattle.trees.specs.Walks.{walk_in, digits_of};
+ghost use Rattle.decorated_tree.specs.Following.{GoOn, DegreesGoOn, ColoursGoOn, IsTreeAfter, colour_bases};
+ghost use Rattle.decorated_tree.specs.Trees.{tree_view, is_padded};
+
+use crate::shape::Shape;
+use crate::tree::Tree;
+use crate::walk::{colour, uncolour, walk_from_zero};
+
+impl Shape {
+    /// Goes on from the tree of the number `k` to that of `k` + 1, which is below [`Shape::count`]. It takes no memory.
+    ///
+    /// Where the two have the same edges, only what differs is written: the marks alone, or the marks and the degrees, or
+    /// the colours too.
+    pub fn next(&self, k: u64, tree: &mut Tree)
+        requires more { k + 1 < tree_count self.now }
+        requires tree { tree_view tree.old ≡ tree_of self.now k }
+        requires marks { tree.old.m ≡ self.now.marks }
+        requires padded { IsTrue (is_padded tree.old) }
+        ensures value { tree_view tree.new ≡ tree_of self.now (k + 1) }
+        ensures decorated { IsTrue (is_decorated self.now (tree_view tree.new)) }
+        ensures listed { IsIn (tree_view tree.new) (all_trees self.now) }
+        ensures number { number_of self.now (tree_view tree.new) ≡ k + 1 }
+        ensures marks { tree.new.m ≡ self.now.marks }
+        ensures padded { IsTrue (is_padded tree.new) }
+    {
+        prove!(k < self.count());
+        if !self.step(tree) {
+            *tree = self.tree(k + 1);
+        }
+    }
+
+    /// Goes on to the tree with the next number, if its edges are the same, and says whether they are.
+    fn step(&self, tree: &mut Tree) -> bool
+        requires decorated { IsTrue (is_decorated self.now (tree_view tree.old)) }
+        requires marks { tree.old.m ≡ self.now.marks }
+        requires padded { IsTrue (is_padded tree.old) }
+        ensures { OnTrue result (IsTreeAfter self.now tree.old tree.new) }
+    {
+        let n = tree.n;
+        let m = self.m() as usize;
+        if next_word(n, &mut tree.marks[..m]) {
+            return true;
+        }
+        let vertices = n as usize;
+        let count = vertices - 1;
+        if next_degrees(&mut tree.degrees[..count], self.d()) {
+            return true;
+        }
+        let edges = tree.edges;
+        let colours = &mut tree.colours[..vertices];
+        next_colours(n, self.r(), edges.as_slice(), colours)
+    }
+}
+
+/// Goes on to the next word of letters below `base` in lexicographic order, and says whether there is one.
+///
+/// After the last word comes that of zeros.
+fn next_word(base: u8, letters: &mut [u8]) -> bool
+    requires { AreDigits (replicate (length letters.old) base) letters.old }
+    ensures { GoOn (replicate (length letters.old) base) letters.old letters.new result }
+{
+    for place in (0..letters.len()).rev() {
+        if letters[place] + 1 < base {
+            letters[place] += 1;
+            return true;
+        }
+        letters[place] = 0;
+    }
+    false
+}
+
+/// Goes on to the next list of positive degrees with this sum in lexicographic order, and says whether there is one.
+///
+/// After the last list comes the first one.
+fn next_degrees(degrees: &mut [u8], sum: u8) -> bool
+    requires some { 0 < length degrees.old }
+    requires degrees { AreDegrees (length degrees.old) sum degrees.old }
+    ensures { DegreesGoOn sum degrees.old degrees.new result }
+{
+    let last = degrees.len() - 1;
+    if last == 0 {
+        return false;
+    }
+    let first = degrees[0];
+    if next_degrees(&mut degrees[1..], sum - first) {
+        return true;
+    }
+    if degrees[last] > 1 {
+        degrees[0] = first + 1;
+        degrees[last] -= 1;
+        return true;
+    }
+    degrees[0] = 1;
+    degrees[last] = first;
+    false
+}
+
+/// Goes on to the next colours of the vertices of a tree, and says whether there are any.
+///
+/// The digit of vertex 0 is its colour, and that of each other vertex the place of its colour among those other than the
+/// colour of the neighbour on the way to vertex 0.
+fn next_colours(n: u8, r: u8, edges: &[(u8, u8)], colours: &mut [u8]) -> bool
+    requires most { n ≤ 11 }
+    requires rank { r ≤ 12 }
+    requires tree { IsTrue (is_tree n edges.now) }
+    requires long { length colours.old ≡ n }
+    requires digits { AreDigits (colour_bases n r) (digits_of (walk_in n edges.now (0 ∷ [])) colours.old colours.old) }
+    ensures { ColoursGoOn n r edges.now colours.old colours.new result }
+{
+    let walk = walk_from_zero(n, edges);
+    let mut places = [0; 11];
+    let digits = &mut places[..n as usize];
+    digits.copy_from_slice(colours);
+    uncolour(walk.as_slice(), colours, digits);
+    let more = next_places(r, digits);
+    colours.copy_from_slice(digits);
+    colour(walk.as_slice(), digits, colours);
+    more
+}
+
+/// Goes on to the next digits of colours, and says whether there are any.
+///
+/// The first digit is at most `r`, and each other one is below `r`.
+fn next_places(r: u8, digits: &mut [u8]) -> bool
+    requires rank { r ≤ 12 }
+    requires digits { AreDigits (colour_bases (length digits.old) r) digits.old }
+    ensures { GoOn (colour_bases (length digits.old) r) digits.old digits.new result }
+{
+    if next_word(r, &mut digits[1..]) {
+        return true;
+    }
+    if digits[0] < r {
+        digits[0] += 1;
+        return true;
+    }
+    digits[0] = 0;
+    false
+}
