@@ -1,5 +1,7 @@
 //! Values by exact fractions, whose tops and bottoms were computed as whole numbers of any size.
 
+mod table;
+
 use super::*;
 use decorated_tree::Shape;
 use residue::{Class, Modulus, Power, Powers, Setup, Term};

@@ -1,5 +1,7 @@
 //! Contributions by exact fractions, whose tops and bottoms were computed as whole numbers of any size.
 
+mod table;
+
 use super::*;
 use decorated_tree::Shape;
 use residue::{Class, Modulus, Power, Powers, Setup, Term, Terms};
@@ -177,14 +179,14 @@ fn at_number(
     shape: &Shape,
     k: u64,
     modulus: &Modulus,
-) -> Result<u64, Fail> {
+) -> Result<Option<u64>, Fail> {
     assert!(rt; shape.d() <= 10 && shape.m() <= 12);
     if shape.r() != setup.rank() || k >= shape.count() {
         return Err("no such tree".into());
     }
     let tree = shape.tree(k);
     assert!(rt; are_terms_for(terms, tree.m));
-    Ok(tree_contribution(setup, terms, &tree, modulus)?)
+    Ok(tree_contribution(setup, terms, &tree, modulus).ok())
 }
 
 #[test]
@@ -206,7 +208,7 @@ fn all_trees_of_degree_two(rt: HostRuntime) -> Result<(), Fail> {
         (7, 40),
     ] {
         let found = at_number(&rt, &setup, &terms, &shape, k, &modulus)?;
-        assert_eq!(rt; found, residue, "tree {k}");
+        assert_eq!(rt; found, Some(residue), "tree {k}");
     }
     Ok(())
 }

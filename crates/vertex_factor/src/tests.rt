@@ -4,6 +4,8 @@ ghost use Rattle.std.specs.Prelude.{All};
 ghost use Rattle.std.specs.Bool.{OnTrue};
 ghost use Rattle.vertex_factor.specs.Ends.{IsEndAt};
 
+mod table;
+
 use super::*;
 use residue::{Modulus, Setup};
 use std::process::Abort;
