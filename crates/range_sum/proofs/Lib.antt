@@ -1,7 +1,4 @@
-pub mod LineTrees
-pub mod LineContribution
-pub mod LineResidues
-pub mod Shapes
+pub mod ProblemTrees
 pub mod Places
 pub mod RangeLaws
-pub mod LineText
+pub mod ConicRules

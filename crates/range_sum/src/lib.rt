@@ -1,14 +1,18 @@
 //! Sums of contributions over ranges of tree numbers.
 //!
-//! For now the problems that are built have degree 1, so their trees have one edge.
+//! The trees of a range of numbers are made one after the other, and the residues of their contributions to each integral
+//! of a problem are summed modulo each of its moduli. Over all numbers the sums are the residues of Kontsevich's sums
+//! over all decorated trees. Where the bottom of a contribution is no unit modulo some modulus, the least number of such
+//! a tree is told instead.
 #![tactic(auto)]
 
-mod lines;
-mod numbered;
+mod at_tree;
+mod bad;
 mod range;
 
-pub use numbered::{append_tree, count_trees};
-pub use range::{NONE_BAD, RangeTotal, first_bad_modulus, sum_range};
+pub use at_tree::contribution;
+pub use bad::first_bad_modulus;
+pub use range::{NONE_BAD, RangeTotal, sum_range};
 
 #[cfg(test)]
 mod tests;

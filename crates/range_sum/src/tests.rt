@@ -1,60 +1,127 @@
-use crate::{NONE_BAD, append_tree, count_trees, first_bad_modulus, sum_range};
-use problem_toml::{Problem, read};
+ghost use Rattle.std.specs.Prelude.{◌≡◌, ◌∷◌, [], IfOk};
+ghost use Rattle.range_sum.specs.Conics.{conic_integrals, five_points};
+
+use super::*;
+use decorated_tree::Shape;
+use problem::Problem;
+use residue::{Class, Integrals, Moduli, Modulus, Power, Powers, Setup, Term, Terms};
 use std::alloc::Global;
 use std::test::Fail;
 
-// Lines in projective space of dimension `rank` with these weights, modulo this modulus, on a hypersurface of this degree.
-fn lines(
-    alloc: Global,
-    rank: &str,
-    weights: &str,
-    modulus: &str,
-    b: &str,
-) -> Result<Problem, Fail> {
-    let text = format!(in alloc;
-        "version = 1\nrank = {rank}\ndegree = 1\nweights = [{weights}]\nmoduli = [{modulus}]\nnumerator_bound = 1\n\
-        denominator_bound = 1\n[[term]]\nclasses = [{{ kind = \"hypersurface\", b = {b} }}]\n"
-    )?;
-    Ok(read(alloc, text.as_bytes()).ok().ok_or("refused")?)
+/// The conics in the plane with one mark that meet five points, modulo 1,000,000,007 and 101: once with the mark on a
+/// line, and once with three times its psi class added.
+fn conics(alloc: Global, weights: &[i64]) -> Result<Problem, Fail> {
+    let Ok(shape) = Shape::new(2, 2, 1) else {
+        return Err("refused".into());
+    };
+    let setup = Setup::new(weights)?;
+    if setup.rank() != 2 {
+        return Err("not the plane".into());
+    }
+    Ok(Problem {
+        shape,
+        setup,
+        moduli: two_moduli(alloc)?,
+        top_bound: 100,
+        bottom_bound: 100,
+        integrals: two_integrals(alloc)?,
+    })
+}
+
+fn two_moduli(alloc: Global) -> Result<Moduli, Fail>
+    ensures { IfOk result (λ moduli. moduli ≡ 1000000007 ∷ 101 ∷ []) }
+{
+    let moduli = vec![in alloc; Modulus::new(1_000_000_007)?, Modulus::new(101)?]?;
+    Ok(Moduli::of(moduli))
+}
+
+fn two_integrals(alloc: Global) -> Result<Integrals, Fail>
+    ensures { IfOk result (λ integrals. integrals ≡ conic_integrals) }
+{
+    let on_line = Power {
+        class: Class::Mark { mark: 1 },
+        power: 1,
+    };
+    let psi = Power {
+        class: Class::Psi { mark: 1 },
+        power: 1,
+    };
+    let first = vec![in alloc; term(alloc, 1, on_line)?]?;
+    let second = vec![in alloc; term(alloc, 3, psi)?, term(alloc, 1, on_line)?]?;
+    let integrals = vec![in alloc; Terms::of(first), Terms::of(second)]?;
+    Ok(Integrals::of(integrals))
+}
+
+/// A coefficient times the class of the conics that meet five points, times another class.
+fn term(alloc: Global, coefficient: i64, other: Power) -> Result<Term, Fail>
+    ensures { IfOk result (λ term. term ≡ five_points coefficient other) }
+{
+    let points = Power {
+        class: Class::Incidence { q: 2 },
+        power: 5,
+    };
+    let powers = vec![in alloc; points, other]?;
+    Ok(Term {
+        coefficient,
+        classes: Powers::of(powers),
+    })
 }
 
 #[test]
-fn sums_the_lines_on_hypersurfaces(rt: HostRuntime) -> Result<(), Fail> {
+fn sums_over_all_conics(rt: HostRuntime) -> Result<(), Fail> {
     let alloc = rt.alloc();
-    // The numbers of lines are 1, 27, 2875 and 698005 (Schubert's calculus), at two choices of weights.
-    let cases = [
-        ("2", "1, 10, 100", "1", 6, 1),
-        ("3", "1, 10, 100, 1000", "3", 12, 27),
-        ("3", "2, 3, 5, 8", "3", 12, 27),
-        ("4", "1, 10, 100, 1000, 10000", "5", 20, 2875),
-        ("5", "1, 2, 4, 8, 16, 32", "7", 30, 698_005),
-    ];
-    for (rank, weights, b, count, wanted) in cases {
-        let problem = lines(alloc, rank, weights, "1000000007", b)?;
-        assert_eq!(rt; count_trees(&problem), count, "at rank {rank}");
-        let total = sum_range(&problem, 0, count_trees(&problem));
-        assert_eq!(rt; total.least, NONE_BAD, "at rank {rank}");
-        assert_eq!(rt; total.sums[0], wanted, "at rank {rank}");
-        assert_eq!(rt; total.sums[1], 0, "at rank {rank}");
+    // A conic meets a line in 2 points; and 3 * -2 + 2, since the psi class has the degree -2 on a conic.
+    for weights in [[1, 10, 11], [-5, 7, 11]] {
+        let problem = conics(alloc, &weights)?;
+        let count = problem.shape.count();
+        assert_eq!(rt; count, 120);
+        let total = sum_range(&problem, 0, count);
+        assert_eq!(rt; total.least, NONE_BAD, "under {weights:?}");
+        assert_eq!(rt; &total.sums[..4], [2, 2, 1_000_000_003, 97].as_slice());
+        assert_eq!(rt; total.sums[4], 0);
     }
     Ok(())
 }
 
 #[test]
-fn names_the_least_number_without_an_inverse(rt: HostRuntime) -> Result<(), Fail> {
-    let alloc = rt.alloc();
-    // Colours 2 and 3 have one weight, so a tree with an end of either is bad. Tree 0 has the colours 0 and 1.
-    let problem = lines(alloc, "3", "1, 10, 5, 5", "1000000007", "3")?;
-    assert_eq!(rt; count_trees(&problem), 12);
-    assert_eq!(rt; sum_range(&problem, 0, 1).least, NONE_BAD);
+fn sums_over_ranges(rt: HostRuntime) -> Result<(), Fail> {
+    let problem = conics(rt.alloc(), &[1, 10, 11])?;
+    if problem.shape.count() < 120 {
+        return Err("too few trees".into());
+    }
+    for (first, end, sums) in [
+        (0, 2, [498_766_014, 37, 2_467_979, 27]),
+        (0, 40, [642_341_294, 78, 60_290_848, 27]),
+        (3, 4, [215_998_785, 27, 376_000_445, 82]),
+        (40, 120, [357_658_715, 25, 939_709_155, 70]),
+        (120, 120, [0; 4]),
+    ] {
+        let total = sum_range(&problem, first, end);
+        assert_eq!(rt; total.least, NONE_BAD, "from {first} to {end}");
+        assert_eq!(rt; &total.sums[..4], sums.as_slice(), "from {first} to {end}");
+    }
+    Ok(())
+}
+
+#[test]
+fn names_the_least_bad_number(rt: HostRuntime) -> Result<(), Fail> {
+    // 1 + 120 - 2 * 10 is 101, so an edge of degree 2 between the colours 0 and 2 is bad for the second modulus.
+    let problem = conics(rt.alloc(), &[1, 10, 120])?;
+    if problem.shape.count() < 120 {
+        return Err("too few trees".into());
+    }
+    for (first, end, least) in [
+        (0, 2, NONE_BAD),
+        (0, 120, 2),
+        (3, 120, 3),
+        (12, 120, 28),
+        (40, 120, 51),
+    ] {
+        let total = sum_range(&problem, first, end);
+        assert_eq!(rt; total.least, least, "from {first} to {end}");
+    }
     assert_eq!(rt; first_bad_modulus(&problem, 0), None);
-    assert_eq!(rt; sum_range(&problem, 0, 12).least, 1);
-    assert_eq!(rt; first_bad_modulus(&problem, 1), Some(0));
-    let mut text = Vec::new(alloc);
-    append_tree(&mut text, &problem, 1).ok().ok_or("no memory")?;
-    assert_eq!(rt;
-        text.as_slice(),
-        b"edges 0-1:1 colours 0 2 marks -".as_slice()
-    );
+    assert_eq!(rt; first_bad_modulus(&problem, 2), Some(1));
+    assert_eq!(rt; first_bad_modulus(&problem, 119), None);
     Ok(())
 }

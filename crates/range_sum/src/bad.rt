@@ -1,0 +1,43 @@
+//! The modulus for which the tree of a number is bad.
+
+ghost use Rattle.std.specs.Prelude.{◌≡◌, ◌≢◌, ◌<◌, ◌↔◌, true, IfSome, IsNone, IsTrue, length, slice_index};
+ghost use Rattle.decorated_tree.specs.Trees.{tree_view, is_tree_of};
+ghost use Rattle.localisation.specs.Agreement.{is_bad_for, IsFirstBad};
+ghost use Rattle.problem.specs.Problems.{view as problem_view};
+ghost use Rattle.problem.specs.Sums.{count_of, is_bad_modulo, is_bad_of};
+
+use crate::at_tree::contribution;
+use decorated_tree::Tree;
+use problem::Problem;
+
+/// The place of the first modulus for which the tree of the number `k` is bad: for which its contribution to some
+/// integral has no residue. `None` exactly where the number is not bad. The number is below the number of decorated trees
+/// of the problem. It takes no memory.
+pub fn first_bad_modulus(problem: &Problem, k: u64) -> Option<usize>
+    requires within { k < count_of (problem_view problem.now) }
+    ensures none { IsNone result ↔ (is_bad_of (problem_view problem.now) k ≢ true) }
+    ensures first { IfSome result (IsFirstBad (is_bad_modulo (problem_view problem.now) k) problem.now.moduli) }
+{
+    let tree = problem.shape.tree(k);
+    for place in 0..problem.moduli.len() {
+        if is_bad_at(problem, &tree, place as u8) {
+            return Some(place);
+        }
+    }
+    None
+}
+
+/// Whether the contribution of a tree to some integral has no residue modulo the modulus at this place.
+fn is_bad_at(problem: &Problem, tree: &Tree, modulus: u8) -> bool
+    requires tree { IsTrue (is_tree_of problem.now.shape tree.now) }
+    requires modulus_within { modulus < length problem.now.moduli }
+    ensures { result ≡ is_bad_for problem.now.setup problem.now.integrals (tree_view tree.now)
+        (slice_index problem.now.moduli modulus) }
+{
+    for integral in 0..problem.integrals.len() {
+        if contribution(problem, integral as u8, tree, modulus).is_err() {
+            return true;
+        }
+    }
+    false
+}
