@@ -1,19 +1,23 @@
 -- Facts of the parts of a problem.
-use Rattle.std.proofs.Common.{◌≡◌, ℕ, ◌<◌, ◌≤◌, ◌+◌, ◌⊎◌, ◌↔◌, ℤ, Bool, true, false, cond, ◌||◌, List, [], ◌∷◌, Some, None, Result, Err, drop, take, length, get_or, refl, ap, ◌∙◌, sym, arith, All, position, eqb, ◌*◌, ◌^◌}
+use Rattle.std.proofs.Common.{◌≡◌, ℕ, ◌<◌, ◌≤◌, ◌+◌, ◌^◌, ◌⊎◌, ◌↔◌, ℤ, Bool, true, false, cond, ◌||◌, List, [], ◌∷◌, Some, None, Result, Ok, Err, length, refl, ap, sym, subst, ◌∙◌, arith, position, eqb, nat_eq, All, sum_by}
 use Rattle.std.proofs.lemmas.Bool.{eqb-true}
 use Rattle.std.specs.List.{list_any, position_from}
 use Rattle.std.proofs.lemmas.Iterator.Adapters.{position_from-zero}
-use Rattle.std.proofs.lemmas.List.{drop_more, take_all}
-use Rattle.std.proofs.lemmas.List.Elements.{All-more, All-same, All-cons, All-nil}
-use Rattle.residue.specs.declared.class.Power.{Power}
+use Rattle.std.proofs.lemmas.List.Elements.{All-cons, All-nil}
+use Rattle.trees.specs.Decorated.{TreeShape}
+use Rattle.trees.specs.Numbers.{tree_count}
+use Rattle.decorated_tree.specs.Shapes.{within_limits}
 use Rattle.residue.specs.declared.class.Term.{Term}
 use Rattle.residue.specs.declared.setup.SetupError.{SetupError}
 use Rattle.residue.specs.declared.setup.SetupError.TheVariants.{BadCount, BadWeight}
-use Rattle.residue.specs.Limits.{is_beyond_limit, IsModulus, AreWeights}
-use Rattle.problem_toml.specs.Facts.{KeepsRules, IsTerm, HasTerms, powers_degree, HasDegree, dimension_of, product_of, ArePairwiseCoprime}
-use Rattle.problem_toml.specs.Header.{IsHeader}
+use Rattle.residue.specs.Limits.{is_beyond_limit, AreWeights}
+use Rattle.problem.specs.Rules.{KeepsRules, IsTerm, IsIntegralOf, HasDimension, AreModuli, AreBounds, dimension_of, powers_degree}
+use Rattle.problem_toml.specs.Header.{IsHeader, header_shape}
+use Rattle.problem_toml.specs.Reading.{degrees_fit, all_degrees_fit}
+use Rattle.problem_toml.specs.Steps.{◌>>=◌, keep}
+use Rattle.problem_toml.specs.declared.error.ProblemError.{ProblemError}
+use Rattle.problem_toml.specs.declared.error.ProblemError.TheVariants.{WrongDegree}
 use Rattle.problem_toml.specs.declared.header.Header.{Header}
-use Rattle.problem_toml.specs.Reading.{degrees_fit}
 
 none_found : (p : ℤ → Bool) (ws : List ℤ) (i : ℕ) → list_any p ws ≡ false → position_from p i ws ≡ None
 none_found p [] i none = refl
@@ -39,64 +43,51 @@ no_cause BadCount r ws rank is counted least most none count weight = few_or_man
     few_or_many n rank is least most h = omega arith
 no_cause (BadWeight place) r ws rank is counted least most none count weight = let there = (weight place).0 is in let h = no_place ws none in cc (there.2)
 
--- one more term of the degree is passed over
-pub degrees_next : (d degree : ℕ) (ts : List Term) (i : ℕ) (t : Term) → i < length ts → powers_degree d (get_or ts i t).classes ≡ degree
-    → degrees_fit d degree (drop i ts) ≡ degrees_fit d degree (drop (i + 1) ts)
-degrees_next d degree ts i t inside is = rw (drop_more ts i t inside, is) (grind (arith))
-
-pub degrees_more : (d degree : ℕ) (ts : List Term) (i : ℕ) (t : Term) → i < length ts → All (HasDegree d degree) (take i ts) → HasDegree d degree (get_or ts i t) → All (HasDegree d degree) (take (i + 1) ts)
-degrees_more d degree ts i t inside are is = All-more (HasDegree d degree) ts i t inside are is
-
-pub degrees_all : (d degree : ℕ) (ts : List Term) (i : ℕ) → length ts ≤ i → All (HasDegree d degree) (take i ts) → All (HasDegree d degree) ts
-degrees_all d degree ts i over are = All-same (HasDegree d degree) ts (take i ts) (sym (take_all i ts over)) are
-
--- the degree of a term that was compared
-pub compared : (d degree n : ℕ) (powers : List Power) (ts : List Term) (i : ℕ) (t : Term) → t ≡ get_or ts i t → powers ≡ t.classes → n ≡ powers_degree d powers → eqb n degree ≡ true
-    → powers_degree d (get_or ts i t).classes ≡ degree
-compared d degree n powers ts i t at classes sum same = ap (λ u. powers_degree d u.classes) (sym at) ∙ ap (powers_degree d) (sym classes) ∙ sym sum ∙ eqb-true n degree same
-
--- one number is pairwise coprime
-coprime_alone : (ms : List ℕ) → length ms ≡ 1 → ArePairwiseCoprime ms
-coprime_alone ms one = λ i j below inside. absurd (omega arith)
-
--- one modulus is below the limit of the product
-small_alone : (ms : List ℕ) → length ms ≡ 1 → All IsModulus ms → product_of ms < 2 ^ 126
-small_alone [] one are = absurd (omega arith)
-small_alone (m ∷ []) one are = small m (are 0 m (omega arith)).limited
+-- where no term is refused for its degree, each has the dimension
+degrees_each : (s : TreeShape) (i : ℕ) (ts : List Term) → degrees_fit s i ts ≡ Ok tt → All (HasDimension s) ts
+degrees_each s i [] fit = All-nil (HasDimension s)
+degrees_each s i (t ∷ ts) fit = by_test (nat_eq (powers_degree s.degree t.classes) (dimension_of s)) refl fit (degrees_each s (i + 1) ts)
   where
-    small : (m : ℕ) → m < 2 ^ 62 → m * 1 < 2 ^ 126
-    small m limited = omega arith
-small_alone (m ∷ n ∷ ms) one are = absurd (omega arith)
+    by_test : (b : Bool) → nat_eq (powers_degree s.degree t.classes) (dimension_of s) ≡ b
+        → (keep b (WrongDegree i (powers_degree s.degree t.classes) (dimension_of s)) >>= (λ _. degrees_fit s (i + 1) ts)) ≡ Ok tt
+        → (degrees_fit s (i + 1) ts ≡ Ok tt → All (HasDimension s) ts) → All (HasDimension s) (t ∷ ts)
+    by_test true e fit rest = All-cons (HasDimension s) t ts (eqb-true (powers_degree s.degree t.classes) (dimension_of s) e) (rest fit)
+    by_test false e fit rest = cc
+
+pub all_degrees_each : (s : TreeShape) (i : ℕ) (its : List (List Term)) → all_degrees_fit s i its ≡ Ok tt → All (All (HasDimension s)) its
+all_degrees_each s i [] fit = All-nil (All (HasDimension s))
+all_degrees_each s i (ts ∷ its) fit = by_first (degrees_fit s i ts) refl fit (all_degrees_each s (i + length ts) its)
+  where
+    by_first : (r : Result (Unit {0}) ProblemError) → degrees_fit s i ts ≡ r → (r >>= (λ _. all_degrees_fit s (i + length ts) its)) ≡ Ok tt
+        → (all_degrees_fit s (i + length ts) its ≡ Ok tt → All (All (HasDimension s)) its) → All (All (HasDimension s)) (ts ∷ its)
+    by_first (Ok u) e fit rest = All-cons (All (HasDimension s)) ts its (degrees_each s i ts e) (rest fit)
+    by_first (Err f) e fit rest = cc
 
 -- what the parts of a problem keep, the whole keeps
-pub keeps_rules : (h : Header) (ws : List ℤ) (ms items slice : List ℕ) (integrals : List (List Term)) (ts terms : List Term)
-    → IsHeader h → length ws ≡ h.rank + 1 → AreWeights ws
-    → ms ≡ items → slice ≡ items → length items ≡ 1 → All IsModulus items → 2 * h.top_bound * h.bottom_bound < product_of slice
-    → integrals ≡ ts ∷ [] → terms ≡ ts → length ts ≡ 1 → All IsTerm ts → (n : ℕ) → n ≡ dimension_of h.rank h.degree h.marks → All (HasDegree h.degree n) terms
-    → KeepsRules (record { rank = h.rank; degree = h.degree; marks = h.marks; weights = ws; moduli = ms; top_bound = h.top_bound; bottom_bound = h.bottom_bound; integrals = integrals })
-keeps_rules h ws ms items slice integrals ts terms is count weights same_moduli same_slice one_modulus moduli bounds same_terms same_items one_term are_terms n dimension degrees = record {
-  least_rank = is.least_rank;
-  most_rank = is.most_rank;
-  degree = is.degree;
-  marks = is.marks;
-  count = count;
+pub keeps_rules : (h : Header) (s : TreeShape) (ws : List ℤ) (ms items : List ℕ) (integrals its slice : List (List Term))
+    → IsHeader h → s ≡ header_shape h → tree_count (header_shape h) ≤ 2 ^ 40 → length ws ≡ h.rank + 1 → AreWeights ws
+    → ms ≡ items → AreModuli items → AreBounds items h.top_bound h.bottom_bound
+    → integrals ≡ its → slice ≡ its → 1 ≤ length its → length its ≤ 8 → All (All (IsTerm h.marks)) its → All (λ terms. 1 ≤ length terms) its → sum_by length its ≤ 32
+    → all_degrees_fit (header_shape h) 0 slice ≡ Ok tt
+    → KeepsRules (record { shape = s; weights = ws; moduli = ms; top_bound = h.top_bound; bottom_bound = h.bottom_bound; integrals = integrals })
+keeps_rules h s ws ms items integrals its slice is shape few count weights same_moduli moduli bounds same_integrals same_slice some most limits some_terms most_terms fit = record {
+  shape = subst (λ u. within_limits u ≡ true) (sym shape) is.shape;
+  few_trees = subst (λ u. tree_count u ≤ 2 ^ 40) (sym shape) few;
+  one_weight_each = count ∙ ap (λ u. u.rank + 1) (sym shape);
   weights = weights;
-  least_moduli = rw same_moduli (omega arith);
-  most_moduli = rw same_moduli (omega arith);
-  moduli = rw same_moduli moduli;
-  coprime = rw same_moduli (coprime_alone items one_modulus);
-  product = rw same_moduli (small_alone items one_modulus moduli);
-  least_top_bound = is.least_top_bound;
-  most_top_bound = is.most_top_bound;
-  least_bottom_bound = is.least_bottom_bound;
-  most_bottom_bound = is.most_bottom_bound;
-  bounds = rw (same_moduli, ← same_slice) bounds;
-  least_integrals = rw same_terms (omega arith);
-  most_integrals = rw same_terms (omega arith);
-  lengths = rw same_terms (alone HasTerms ts (record { least = omega arith; most = omega arith }));
-  terms = rw same_terms (alone (λ terms. All IsTerm terms) ts are_terms);
-  degrees = rw same_terms (alone (λ terms. All (HasDegree h.degree (dimension_of h.rank h.degree h.marks)) terms) ts (rw (← dimension, ← same_items) degrees));
+  moduli = subst AreModuli (sym same_moduli) moduli;
+  bounds = subst (λ ns. AreBounds ns h.top_bound h.bottom_bound) (sym same_moduli) bounds;
+  some_integrals = subst (λ u. 1 ≤ length u) (sym same_integrals) some;
+  few_integrals = subst (λ u. length u ≤ 8) (sym same_integrals) most;
+  few_terms = subst (λ u. sum_by length u ≤ 32) (sym same_integrals) most_terms;
+  integrals = subst (All (IsIntegralOf s)) (sym same_integrals) (subst (λ u. All (IsIntegralOf u) its) (sym shape) are_integrals);
 }
   where
-    alone : (P : List Term → Type 0) (ts : List Term) → P ts → All P (ts ∷ [])
-    alone P ts is = All-cons P ts [] is (All-nil P)
+    fits : all_degrees_fit (header_shape h) 0 its ≡ Ok tt
+    fits = ap (all_degrees_fit (header_shape h) 0) (sym same_slice) ∙ fit
+
+    are_integrals : All (IsIntegralOf (header_shape h)) its
+    are_integrals = λ i d inside. record {
+      some = some_terms i d inside;
+      each = λ j t within. record { limits = limits i d inside j t within; dimension = all_degrees_each (header_shape h) 0 its fits i d inside j t within };
+    }

@@ -1,47 +1,93 @@
 -- Classes and terms that are read one after another.
-use Rattle.std.proofs.Common.{◌≡◌, ℕ, ◌<◌, ◌≤◌, ◌+◌, List, [], ◌∷◌, ◌++◌, Ok, Err, drop, length, get_or, refl, arith, All}
-use Rattle.std.proofs.lemmas.List.{append-nil, drop_all}
+use Rattle.std.proofs.Common.{◌≡◌, ℕ, ◌<◌, ◌≤◌, ◌+◌, List, [], ◌∷◌, ◌++◌, Ok, Err, Some, None, drop, length, get_or, arith, All, ap, sym, ◌∙◌}
+use Rattle.std.proofs.lemmas.List.{append-nil, length-append}
 use Rattle.std.proofs.lemmas.List.Elements.{All-push}
-use Rattle.toml.proofs.Views.{items_view-drop}
 use Rattle.toml.specs.declared.value.Value.{Value}
+use Rattle.toml.specs.Data.{as_table, Members}
 use Rattle.toml.specs.View.{view, items_view}
 use Rattle.residue.specs.declared.class.Power.{Power}
 use Rattle.residue.specs.declared.class.Term.{Term}
-use Rattle.problem_toml.specs.Facts.{IsPower, IsTerm}
-use Rattle.problem_toml.specs.Tables.{items_count}
-use Rattle.problem_toml.specs.Terms.{table_power, powers_in, table_term, terms_in}
+use Rattle.problem.specs.Rules.{IsPower, IsTerm}
+use Rattle.problem_toml.specs.Classes.{power_of, powers_from}
+use Rattle.problem_toml.specs.Steps.{◌>>=◌}
+use Rattle.problem_toml.specs.Tables.{tables_among}
+use Rattle.problem_toml.specs.Terms.{term_of, terms_from}
 use Rattle.problem_toml.specs.declared.error.ProblemError.{ProblemError}
-use Rattle.problem_toml.proofs.Arrays.{with_front, with_one}
+use Rattle.problem_toml.specs.declared.version.Version.{Version}
+use Rattle.problem_toml.proofs.Arrays.{with_front, with_one, tables_here, tables_past, tables_end}
 
-pub powers_next : (xs : List Power) (p : Power) (vs : List Value) (i : ℕ) (v : Value) → i < length vs → table_power (view (get_or vs i v)) ≡ Ok p
-    → with_front xs (powers_in (items_view (drop i vs))) ≡ with_front (xs ++ p ∷ []) (powers_in (items_view (drop (i + 1) vs)))
-powers_next xs p vs i v inside read = rw (items_view-drop vs i v inside, read) (with_one xs p _)
+module _ (version : Version) (marks term : ℕ) where
+  pub powers_next : (xs : List Power) (j : ℕ) (p : Power) (vs : List Value) (i : ℕ) (v : Value) (doc : Members) → i < length vs → Some doc ≡ as_table (view (get_or vs i v))
+      → power_of version marks term j doc ≡ Ok p
+      → with_front xs (powers_from version marks term j (tables_among (items_view (drop i vs)))) ≡ with_front (xs ++ p ∷ []) (powers_from version marks term (j + 1) (tables_among (items_view (drop (i + 1) vs))))
+  powers_next xs j p vs i v doc inside is read = rw (tables_here vs i v doc inside is, read) (with_one xs p _)
 
-pub powers_fail : (xs : List Power) (e : ProblemError) (vs : List Value) (i : ℕ) (v : Value) → i < length vs → table_power (view (get_or vs i v)) ≡ Err e
-    → with_front xs (powers_in (items_view (drop i vs))) ≡ Err e
-powers_fail xs e vs i v inside read = rw (items_view-drop vs i v inside, read)
+  pub powers_fail : (xs : List Power) (j : ℕ) (e : ProblemError) (vs : List Value) (i : ℕ) (v : Value) (doc : Members) → i < length vs → Some doc ≡ as_table (view (get_or vs i v))
+      → power_of version marks term j doc ≡ Err e
+      → with_front xs (powers_from version marks term j (tables_among (items_view (drop i vs)))) ≡ Err e
+  powers_fail xs j e vs i v doc inside is read = rw (tables_here vs i v doc inside is, read)
 
-pub powers_all : (xs : List Power) (vs : List Value) (i : ℕ) → length vs ≤ i → with_front xs (powers_in (items_view (drop i vs))) ≡ Ok xs
-powers_all xs vs i over = rw (drop_all i vs over, append-nil)
+  pub powers_other : (xs : List Power) (j : ℕ) (vs : List Value) (i : ℕ) (v : Value) → i < length vs → None ≡ as_table (view (get_or vs i v))
+      → with_front xs (powers_from version marks term j (tables_among (items_view (drop i vs)))) ≡ with_front xs (powers_from version marks term j (tables_among (items_view (drop (i + 1) vs))))
+  powers_other xs j vs i v inside is = rw (tables_past vs i v inside is)
 
-pub power_added : (xs : List Power) (p : Power) → All IsPower xs → IsPower p → All IsPower (xs ++ p ∷ [])
-power_added xs p are is = All-push IsPower xs p are is
+  pub powers_all : (xs : List Power) (j : ℕ) (vs : List Value) (i : ℕ) → length vs ≤ i → with_front xs (powers_from version marks term j (tables_among (items_view (drop i vs)))) ≡ Ok xs
+  powers_all xs j vs i over = rw (tables_end vs i over, append-nil)
 
-pub terms_next : (xs : List Term) (t : Term) (vs : List Value) (i : ℕ) (v : Value) → i < length vs → table_term (view (get_or vs i v)) ≡ Ok t
-    → with_front xs (terms_in (items_view (drop i vs))) ≡ with_front (xs ++ t ∷ []) (terms_in (items_view (drop (i + 1) vs)))
-terms_next xs t vs i v inside read = rw (items_view-drop vs i v inside, read) (with_one xs t _)
+pub power_added : (m : ℕ) (xs : List Power) (p : Power) → All (IsPower m) xs → IsPower m p → All (IsPower m) (xs ++ p ∷ [])
+power_added m xs p are is = All-push (IsPower m) xs p are is
 
-pub terms_fail : (xs : List Term) (e : ProblemError) (vs : List Value) (i : ℕ) (v : Value) → i < length vs → table_term (view (get_or vs i v)) ≡ Err e
-    → with_front xs (terms_in (items_view (drop i vs))) ≡ Err e
-terms_fail xs e vs i v inside read = rw (items_view-drop vs i v inside, read)
+module _ (version : Version) (marks : ℕ) where
+  -- the terms up to value i are read, and those of the rest are to be read after them
+  pub record AreTermsUpTo (first : ℕ) (vs : List Value) (i : ℕ) (ts : List Term) : Type 0 where
+    pub read : with_front ts (terms_from version marks (first + length ts) (tables_among (items_view (drop i vs)))) ≡ terms_from version marks first (tables_among (items_view vs))
+    pub limits : All (IsTerm marks) ts
+    pub count : length ts + length (tables_among (items_view (drop i vs))) ≡ length (tables_among (items_view vs))
+    pub few : length ts ≤ i
 
-pub terms_all : (xs : List Term) (vs : List Value) (i : ℕ) → length vs ≤ i → with_front xs (terms_in (items_view (drop i vs))) ≡ Ok xs
-terms_all xs vs i over = rw (drop_all i vs over, append-nil)
+  pub terms_next : (first : ℕ) (vs : List Value) (i n : ℕ) (ts : List Term) (t : Term) (v : Value) (doc : Members) → i < length vs → Some doc ≡ as_table (view (get_or vs i v)) → n ≡ first + length ts
+      → term_of version marks n doc ≡ Ok t → IsTerm marks t → AreTermsUpTo first vs i ts → AreTermsUpTo first vs (i + 1) (ts ++ t ∷ [])
+  terms_next first vs i n ts t v doc inside is number read limits so_far = record {
+    read = ap (λ k. with_front (ts ++ t ∷ []) (terms_from version marks k rest)) one_more ∙ sym (with_one ts t (terms_from version marks (first + length ts + 1) rest))
+        ∙ ap (with_front ts) (sym step) ∙ ap (λ docs. with_front ts (terms_from version marks (first + length ts) docs)) (sym here) ∙ so_far.read;
+    limits = All-push (IsTerm marks) ts t so_far.limits limits;
+    count = omega (arith, length-append ts (t ∷ []), ap length here, so_far.count);
+    few = omega (arith, length-append ts (t ∷ []), so_far.few);
+  }
+    where
+      rest : List Members
+      rest = tables_among (items_view (drop (i + 1) vs))
 
-pub term_added : (xs : List Term) (t : Term) → All IsTerm xs → IsTerm t → All IsTerm (xs ++ t ∷ [])
-term_added xs t are is = All-push IsTerm xs t are is
+      here : tables_among (items_view (drop i vs)) ≡ doc ∷ rest
+      here = tables_here vs i v doc inside is
 
--- as many values as items
-pub items_counted : (vs : List Value) → items_count (items_view vs) ≡ length vs
-items_counted [] = refl
-items_counted (v ∷ vs) = omega (arith, items_counted vs)
+      one_more : first + length (ts ++ t ∷ []) ≡ first + length ts + 1
+      one_more = omega (arith, length-append ts (t ∷ []))
+
+      step : terms_from version marks (first + length ts) (doc ∷ rest) ≡ (terms_from version marks (first + length ts + 1) rest >>= (λ us. Ok (t ∷ us)))
+      step = ap (λ r. r >>= (λ u. terms_from version marks (first + length ts + 1) rest >>= (λ us. Ok (u ∷ us)))) (ap (λ k. term_of version marks k doc) (sym number) ∙ read)
+
+  pub terms_fail : (first : ℕ) (vs : List Value) (i n : ℕ) (ts : List Term) (e : ProblemError) (v : Value) (doc : Members) → i < length vs → Some doc ≡ as_table (view (get_or vs i v)) → n ≡ first + length ts
+      → term_of version marks n doc ≡ Err e → AreTermsUpTo first vs i ts → terms_from version marks first (tables_among (items_view vs)) ≡ Err e
+  terms_fail first vs i n ts e v doc inside is number read so_far =
+      sym so_far.read ∙ ap (λ docs. with_front ts (terms_from version marks (first + length ts) docs)) (tables_here vs i v doc inside is)
+      ∙ ap (λ r. with_front ts (r >>= (λ u. terms_from version marks (first + length ts + 1) (tables_among (items_view (drop (i + 1) vs))) >>= (λ us. Ok (u ∷ us))))) (ap (λ k. term_of version marks k doc) (sym number) ∙ read)
+
+  pub terms_other : (first : ℕ) (vs : List Value) (i : ℕ) (ts : List Term) (v : Value) → i < length vs → None ≡ as_table (view (get_or vs i v))
+      → AreTermsUpTo first vs i ts → AreTermsUpTo first vs (i + 1) ts
+  terms_other first vs i ts v inside is so_far = record {
+    read = ap (λ docs. with_front ts (terms_from version marks (first + length ts) docs)) (sym past) ∙ so_far.read;
+    limits = so_far.limits;
+    count = omega (arith, ap length past, so_far.count);
+    few = omega (arith, so_far.few);
+  }
+    where
+      past : tables_among (items_view (drop i vs)) ≡ tables_among (items_view (drop (i + 1) vs))
+      past = tables_past vs i v inside is
+
+  pub terms_all : (first : ℕ) (vs : List Value) (i : ℕ) (ts : List Term) → length vs ≤ i → AreTermsUpTo first vs i ts → terms_from version marks first (tables_among (items_view vs)) ≡ Ok ts
+  terms_all first vs i ts over so_far =
+      sym so_far.read ∙ ap (λ docs. with_front ts (terms_from version marks (first + length ts) docs)) (tables_end vs i over) ∙ ap Ok (append-nil ts)
+
+  pub terms_counted : (first : ℕ) (vs : List Value) (i : ℕ) (ts : List Term) → length vs ≤ i → AreTermsUpTo first vs i ts → length ts ≡ length (tables_among (items_view vs))
+  terms_counted first vs i ts over so_far = omega (arith, ap length (tables_end vs i over), so_far.count)

@@ -1,8 +1,12 @@
-pub mod Facts
+pub mod Classes
 pub mod Header
+pub mod Integrals
 pub mod Keys
-pub mod Problems
+pub mod Kinds
+pub mod Moduli
 pub mod Reading
 pub mod Refusals
+pub mod Steps
 pub mod Tables
 pub mod Terms
+pub mod Versions

@@ -1,88 +1,89 @@
 -- Reading a text as a problem: its rules in their order, and the first of them that is broken.
-use Rattle.std.specs.Prelude.{ℕ, ◌*◌, pos, List, [], ◌∷◌, length, Option, Some, Result, Ok, Err, nat_eq, nat_lt, int_le, if◌then◌else◌}
+use Rattle.std.specs.Prelude.{ℕ, ◌+◌, ◌^◌, List, [], ◌∷◌, length, Result, Ok, Err, nat_eq, nat_lt, nat_le, if◌then◌else◌}
 use Rattle.std.specs.Option.{ok_or}
 use Rattle.std.specs.Str.{is_utf8}
-use Rattle.std.specs.Ordering.{int_eq}
-use Rattle.toml.specs.Data.{Data, integer, Items, Members, get_member}
+use Rattle.toml.specs.Data.{Members}
 use Rattle.toml.specs.Parse.{parse_document}
+use Rattle.trees.specs.Decorated.{TreeShape}
+use Rattle.trees.specs.Numbers.{tree_count}
 use Rattle.residue.specs.declared.class.Term.{Term}
-use Rattle.problem_toml.specs.Facts.{ProblemView, product_of, powers_degree, dimension_of}
-use Rattle.problem_toml.specs.Keys.{key_of}
-use Rattle.problem_toml.specs.Tables.{◌>>=◌, keep, all_present, all_known, integer_at, tables_at, items_count}
-use Rattle.problem_toml.specs.Header.{WrittenView, written_of, header_of, weights_of, moduli_of}
-use Rattle.problem_toml.specs.Terms.{terms_in}
+use Rattle.problem.specs.Rules.{ProblemView, dimension_of, powers_degree}
+use Rattle.problem_toml.specs.Header.{WrittenView, written_of, header_of, header_shape}
+use Rattle.problem_toml.specs.Integrals.{integrals_of}
+use Rattle.problem_toml.specs.Moduli.{weights_of, moduli_from, coprime_from, bounds_fit}
+use Rattle.problem_toml.specs.Steps.{◌>>=◌, keep}
+use Rattle.problem_toml.specs.Tables.{all_present, all_known, tables_at}
+use Rattle.problem_toml.specs.Versions.{version_of, list_key, needed, known}
 use Rattle.problem_toml.specs.declared.error.ProblemError.{ProblemError}
-use Rattle.problem_toml.specs.declared.error.ProblemError.TheVariants.{TooLong, NotToml, DegreeNotBuilt}
+use Rattle.problem_toml.specs.declared.error.ProblemError.TheVariants.{TooLong, NotToml, WrongDegree, TooManyTrees}
 use Rattle.problem_toml.specs.declared.header.Header.{Header}
-use Rattle.problem_toml.specs.declared.name.Name.{Name}
-use Rattle.problem_toml.specs.declared.name.Name.TheVariants as key
+use Rattle.problem_toml.specs.declared.place.Place.TheVariants.{Top}
+use Rattle.problem_toml.specs.declared.version.Version.{Version}
 
 -- the table that the bytes write
 unfoldable pub document_of : List ℕ → Result Members ProblemError
 document_of text = if is_utf8 text then ok_or (parse_document text) NotToml else Err NotToml
 
-abbrev pub low_degree : Option Data → Result (Unit {0}) ProblemError
-low_degree (Some (integer z)) = if int_le (pos 2) z then Err (DegreeNotBuilt z) else Ok tt
-low_degree _ = Ok tt
-
--- no integer `degree` of at least 2
-unfoldable pub degree_built : Members → Result (Unit {0}) ProblemError
-degree_built doc = low_degree (get_member (key_of key.Degree) doc)
-
-unfoldable pub version_one : Members → Result (Unit {0}) ProblemError
-version_one doc = do
-  z ← integer_at key.Version doc
-  keep (int_eq z (pos 1))
-
--- the keys that have to be there, and those that may be there
-abbrev pub needed : List Name
-needed = key.Rank ∷ key.Degree ∷ key.Weights ∷ key.Moduli ∷ key.NumeratorBound ∷ key.DenominatorBound ∷ key.Term ∷ []
-
-abbrev pub known : List Name
-known = key.Version ∷ key.Marks ∷ needed
-
--- 2AB is below the product of the moduli, which is below 2^126
-unfoldable pub bounds_fit : List ℕ → ℕ → ℕ → Result (Unit {0}) ProblemError
-bounds_fit moduli top_bound bottom_bound = keep (nat_lt (2 * top_bound * bottom_bound) (product_of moduli))
-
--- each term has this degree on the maps of degree d
-abbrev pub degrees_fit : ℕ → ℕ → List Term → Result (Unit {0}) ProblemError
-degrees_fit d degree [] = Ok tt
-degrees_fit d degree (t ∷ ts) = do
-  _ ← keep (nat_eq (powers_degree d t.classes) degree)
-  degrees_fit d degree ts
-
--- the rules that need the numbers at the top
-unfoldable pub problem_with : Header → WrittenView → Items → Result ProblemView ProblemError
-problem_with header written items = do
-  weights ← weights_of header.rank written.weights
-  moduli ← moduli_of written.moduli
+-- the moduli, pairwise coprime, and with the bounds on the fraction below their product
+unfoldable pub moduli_of : Header → WrittenView → Result (List ℕ) ProblemError
+moduli_of header written = do
+  moduli ← moduli_from 0 written.moduli
+  _ ← coprime_from 0 moduli
   _ ← bounds_fit moduli header.top_bound header.bottom_bound
-  terms ← terms_in items
-  _ ← degrees_fit header.degree (dimension_of header.rank header.degree header.marks) terms
+  Ok moduli
+
+-- each term, from number i on, has the dimension as its degree
+abbrev pub degrees_fit : TreeShape → ℕ → List Term → Result (Unit {0}) ProblemError
+degrees_fit s i [] = Ok tt
+degrees_fit s i (t ∷ ts) = do
+  _ ← keep (nat_eq (powers_degree s.degree t.classes) (dimension_of s)) (WrongDegree i (powers_degree s.degree t.classes) (dimension_of s))
+  degrees_fit s (i + 1) ts
+
+-- the same of all integrals in their order
+abbrev pub all_degrees_fit : TreeShape → ℕ → List (List Term) → Result (Unit {0}) ProblemError
+all_degrees_fit s i [] = Ok tt
+all_degrees_fit s i (terms ∷ integrals) = do
+  _ ← degrees_fit s i terms
+  all_degrees_fit s (i + length terms) integrals
+
+-- there are at most 2^40 decorated trees of the shape
+unfoldable pub shape_fits : TreeShape → Result TreeShape ProblemError
+shape_fits s = do
+  _ ← keep (nat_le (tree_count s) (2 ^ 40)) TooManyTrees
+  Ok s
+
+-- the rules that need the numbers at the top; `docs` are the tables of the terms or of the integrals
+unfoldable pub problem_with : Version → Header → WrittenView → List Members → Result ProblemView ProblemError
+problem_with version header written docs = do
+  weights ← weights_of header.rank written.weights
+  moduli ← moduli_of header written
+  integrals ← integrals_of version header.marks docs
+  _ ← all_degrees_fit (header_shape header) 0 integrals
+  shape ← shape_fits (header_shape header)
   Ok (record {
-    rank = header.rank;
-    degree = header.degree;
-    marks = header.marks;
+    shape = shape;
     weights = weights;
     moduli = moduli;
     top_bound = header.top_bound;
     bottom_bound = header.bottom_bound;
-    integrals = terms ∷ [];
+    integrals = integrals;
   })
 
--- a table, by the rules on it in their order
+-- the problem that a table stands for, or the first rule on it that is broken
 unfoldable pub problem_of : Members → Result ProblemView ProblemError
 problem_of doc = do
-  _ ← degree_built doc
-  _ ← version_one doc
-  _ ← all_present needed doc
-  _ ← all_known known doc
+  version ← version_of doc
+  _ ← all_present Top (needed version) doc
+  _ ← all_known Top (known version) doc
   written ← written_of doc
-  items ← tables_at key.Term doc
-  header ← header_of written (items_count items)
-  problem_with header written items
+  docs ← tables_at Top (list_key version) doc
+  header ← header_of version written (length docs)
+  problem_with version header written docs
 
--- a text of at most 1,048,576 bytes
+-- the same of a text of any length
+unfoldable pub reading_of_any_length : List ℕ → Result ProblemView ProblemError
+reading_of_any_length text = document_of text >>= problem_of
+
+-- the problem that a text of at most 1,048,576 bytes stands for, or the first rule that it breaks
 unfoldable pub reading : List ℕ → Result ProblemView ProblemError
-reading text = if nat_lt 1048576 (length text) then Err TooLong else document_of text >>= problem_of
+reading text = if nat_lt 1048576 (length text) then Err TooLong else reading_of_any_length text

@@ -1,75 +1,42 @@
--- The terms of a problem text.
-use Rattle.std.specs.Prelude.{ℤ, pos, List, [], ◌∷◌, Bool, Result, Ok, Err, nat_le, unsigned_abs, codes}
-use Rattle.std.specs.Str.{bytes_eq}
-use Rattle.toml.specs.Data.{Data, table, Items, no_items, item, Members, get_member}
-use Rattle.residue.specs.declared.class.Class.TheVariants.{Hypersurface}
-use Rattle.residue.specs.declared.class.Power.{Power}
+-- The terms of a problem text, which are numbered through all integrals.
+use Rattle.std.specs.Prelude.{ℕ, ◌+◌, ℤ, pos, List, [], ◌∷◌, length, Bool, Result, Ok, nat_le, unsigned_abs}
+use Rattle.toml.specs.Data.{Members, get_member}
 use Rattle.residue.specs.declared.class.Term.{Term}
+use Rattle.problem_toml.specs.Classes.{powers_from}
 use Rattle.problem_toml.specs.Keys.{key_of}
-use Rattle.problem_toml.specs.Tables.{◌>>=◌, keep, present, all_known, integer_of, integer_or, text_of, tables_at, within, items_count}
+use Rattle.problem_toml.specs.Steps.{◌>>=◌, keep}
+use Rattle.problem_toml.specs.Tables.{present, all_known, integer_or, tables_at, count_within}
 use Rattle.problem_toml.specs.declared.error.ProblemError.{ProblemError}
-use Rattle.problem_toml.specs.declared.error.ProblemError.TheVariants.{FormNotBuilt}
+use Rattle.problem_toml.specs.declared.error.ProblemError.TheVariants.{OutOfLimits}
 use Rattle.problem_toml.specs.declared.name.Name.{Name}
 use Rattle.problem_toml.specs.declared.name.Name.TheVariants as key
-
--- the keys of a class of the kind `hypersurface`
-abbrev pub class_names : List Name
-class_names = key.Kind ∷ key.B ∷ key.Power ∷ []
-
--- a class to its power
-unfoldable pub power_of : Members → Result Power ProblemError
-power_of doc = do
-  d ← present key.Kind doc
-  kind ← text_of d
-  _ ← keep (bytes_eq kind (codes "hypersurface"))
-  d ← present key.B doc
-  _ ← all_known class_names doc
-  b ← integer_of d
-  power ← integer_or (pos 1) (get_member (key_of key.Power) doc)
-  b ← within 1 64 b
-  power ← within 1 64 power
-  Ok (record { class = Hypersurface b; power = power })
-
-abbrev pub table_power : Data → Result Power ProblemError
-table_power (table doc) = power_of doc
-table_power _ = Err FormNotBuilt
-
--- the classes in order
-abbrev pub powers_in : Items → Result (List Power) ProblemError
-powers_in no_items = Ok []
-powers_in (item d ds) = do
-  p ← table_power d
-  ps ← powers_in ds
-  Ok (p ∷ ps)
+use Rattle.problem_toml.specs.declared.place.Place.TheVariants as place
+use Rattle.problem_toml.specs.declared.version.Version.{Version}
 
 -- the keys of a term
-abbrev pub term_names : List Name
-term_names = key.Coefficient ∷ key.Classes ∷ []
+abbrev pub term_keys : List Name
+term_keys = key.Coefficient ∷ key.Classes ∷ []
 
 -- a coefficient is from -1,000,000,000 to 1,000,000,000
 abbrev pub is_coefficient : ℤ → Bool
 is_coefficient z = nat_le (unsigned_abs z) 1000000000
 
--- a term
-unfoldable pub term_of : Members → Result Term ProblemError
-term_of doc = do
-  _ ← present key.Classes doc
-  _ ← all_known term_names doc
-  coefficient ← integer_or (pos 1) (get_member (key_of key.Coefficient) doc)
-  classes ← tables_at key.Classes doc
-  _ ← keep (is_coefficient coefficient)
-  _ ← keep (nat_le (items_count classes) 16)
-  powers ← powers_in classes
+-- term i, with the coefficient 1 where it is left out, and with 0 to 16 classes
+unfoldable pub term_of : Version → ℕ → ℕ → Members → Result Term ProblemError
+term_of version marks i doc = do
+  _ ← present (place.Term i) key.Classes doc
+  _ ← all_known (place.Term i) term_keys doc
+  coefficient ← integer_or (place.Term i) key.Coefficient (pos 1) (get_member (key_of key.Coefficient) doc)
+  classes ← tables_at (place.Term i) key.Classes doc
+  _ ← keep (is_coefficient coefficient) (OutOfLimits (place.Term i) key.Coefficient)
+  _ ← count_within (place.Term i) key.Classes 0 16 (length classes)
+  powers ← powers_from version marks i 0 classes
   Ok (record { coefficient = coefficient; classes = powers })
 
-abbrev pub table_term : Data → Result Term ProblemError
-table_term (table doc) = term_of doc
-table_term _ = Err FormNotBuilt
-
--- the terms in order
-abbrev pub terms_in : Items → Result (List Term) ProblemError
-terms_in no_items = Ok []
-terms_in (item d ds) = do
-  t ← table_term d
-  ts ← terms_in ds
+-- the terms from number i on
+abbrev pub terms_from : Version → ℕ → ℕ → List Members → Result (List Term) ProblemError
+terms_from version marks i [] = Ok []
+terms_from version marks i (doc ∷ docs) = do
+  t ← term_of version marks i doc
+  ts ← terms_from version marks (i + 1) docs
   Ok (t ∷ ts)

@@ -1,18 +1,24 @@
 //! Problem texts in TOML: reading them, and the line that says why one is refused.
-//!
-//! For now one form is built: degree 1, no marks, one modulus, one term, and classes of the kind `hypersurface`.
 #![tactic(auto)]
 
+mod classes;
+mod degrees;
 mod error;
 mod header;
+mod integrals;
+mod kind;
+mod moduli;
 mod name;
-mod problem;
+mod place;
 mod reading;
 mod refusal;
 mod table;
 mod terms;
+mod version;
 
 pub use error::ProblemError;
+pub use name::Name;
+pub use place::Place;
 pub use problem::Problem;
 pub use reading::read;
 pub use refusal::{append_refusal, refusal_line};

@@ -15,10 +15,14 @@ pub enum Name {
     NumeratorBound,
     DenominatorBound,
     Term,
+    Integral,
     Coefficient,
     Classes,
     Kind,
+    Mark,
     B,
+    Q,
+    K,
     Power,
 }
 
@@ -37,10 +41,14 @@ impl Name {
             Name::NumeratorBound => "numerator_bound",
             Name::DenominatorBound => "denominator_bound",
             Name::Term => "term",
+            Name::Integral => "integral",
             Name::Coefficient => "coefficient",
             Name::Classes => "classes",
             Name::Kind => "kind",
+            Name::Mark => "mark",
             Name::B => "b",
+            Name::Q => "q",
+            Name::K => "k",
             Name::Power => "power",
         }
     }

@@ -1,15 +1,18 @@
 //! Looking up what a table holds.
 
-ghost use Rattle.std.specs.Prelude.{◌≡◌, ◌≤◌, IfOk, OnOk, true, option_map, option_copied, string_bytes, find, not, is_some};
+ghost use Rattle.std.specs.Prelude.{◌≡◌, ◌≤◌, IfOk, OnOk, IsOkUnless, true, length, option_map, option_copied, string_bytes, find, not, is_some};
 ghost use Rattle.std.specs.List.{list_all};
 ghost use Rattle.std.specs.BTreeMap.{keys};
 ghost use Rattle.toml.specs.Data.{get_member, as_table};
 ghost use Rattle.toml.specs.View.{view, table_view, items_view};
 ghost use Rattle.problem_toml.specs.Keys.{key_of};
-ghost use Rattle.problem_toml.specs.Tables.{Gives, GivesSurely, present, all_present, all_known, is_known, integer_of, text_of, integers_of, integers_in, tables_of, integer_or, integer_at, integers_at, tables_at, within, keep};
+ghost use Rattle.problem_toml.specs.Steps.{Gives, GivesSurely, keep};
+ghost use Rattle.problem_toml.specs.Tables.{present, all_present, all_known, is_known, integer_of, text_of, integers_of, integers_in, tables_among, tables_of, integer_or, integer_at, integers_at, tables_at, within, count_within};
 
 use crate::error::ProblemError;
 use crate::name::Name;
+use crate::place::Place;
+use residue::Bytes;
 use std::alloc::Global;
 use toml::{Table, Value};
 
@@ -21,99 +24,119 @@ pub fn find(table: &Table, name: Name) -> Option<&Value>
 }
 
 /// The value at a key that has to be there.
-pub fn value_at(table: &Table, name: Name) -> Result<&Value, ProblemError>
-    ensures { GivesSurely (λ v. view v.now) result (present name (table_view table.now)) }
+pub fn value_at(table: &Table, place: Place, name: Name) -> Result<&Value, ProblemError>
+    ensures { GivesSurely (λ v. view v.now) result (present place name (table_view table.now)) }
 {
     match find(table, name) {
         Some(value) => Ok(value),
-        None => Err(ProblemError::FormNotBuilt),
+        None => Err(ProblemError::MissingKey { place, name }),
     }
 }
 
 /// The value where it is an integer.
-pub fn as_integer(value: &Value) -> Result<i64, ProblemError>
-    ensures { GivesSurely (λ z. z) result (integer_of (view value.now)) }
+pub fn as_integer(value: &Value, place: Place, name: Name) -> Result<i64, ProblemError>
+    ensures { GivesSurely (λ z. z) result (integer_of place name (view value.now)) }
 {
     match value.as_integer() {
         Some(number) => Ok(number),
-        None => Err(ProblemError::FormNotBuilt),
+        None => Err(ProblemError::WrongType { place, name }),
     }
 }
 
 /// The value where it is a text.
-pub fn as_text(value: &Value) -> Result<&str, ProblemError>
-    ensures { GivesSurely (λ text. text.now) result (text_of (view value.now)) }
+pub fn as_text(value: &Value, place: Place, name: Name) -> Result<&str, ProblemError>
+    ensures { GivesSurely (λ text. text.now) result (text_of place name (view value.now)) }
 {
     match value.as_str() {
         Some(text) => Ok(text),
-        None => Err(ProblemError::FormNotBuilt),
+        None => Err(ProblemError::WrongType { place, name }),
     }
 }
 
 /// The integer at a key that has to be there.
 #[tactic(auto, unfolding(crate::specs::Tables::integer_at))]
-pub fn integer(table: &Table, name: Name) -> Result<i64, ProblemError>
-    ensures { GivesSurely (λ z. z) result (integer_at name (table_view table.now)) }
+pub fn integer(table: &Table, place: Place, name: Name) -> Result<i64, ProblemError>
+    ensures { GivesSurely (λ z. z) result (integer_at place name (table_view table.now)) }
 {
-    as_integer(value_at(table, name)?)
+    as_integer(value_at(table, place, name)?, place, name)
 }
 
 /// The integer, or another where it is left out.
-pub fn integer_or(value: Option<&Value>, otherwise: i64) -> Result<i64, ProblemError>
-    ensures { GivesSurely (λ z. z) result (integer_or otherwise (option_map (λ v. view v.now) value.entry)) }
+pub fn integer_or(
+    value: Option<&Value>,
+    place: Place,
+    name: Name,
+    otherwise: i64,
+) -> Result<i64, ProblemError>
+    ensures { GivesSurely (λ z. z) result (integer_or place name otherwise (option_map (λ v. view v.now) value.entry)) }
 {
     match value {
-        Some(value) => as_integer(value),
+        Some(value) => as_integer(value, place, name),
         None => Ok(otherwise),
     }
 }
 
 /// The integers of an array at a key that has to be there.
 #[tactic(auto, unfolding(crate::specs::Tables::integers_at))]
-pub fn integers(alloc: Global, table: &Table, name: Name) -> Result<Vec<i64>, ProblemError>
-    ensures { Gives (λ v. v.items) result (integers_at name (table_view table.now)) }
+pub fn integers(
+    alloc: Global,
+    table: &Table,
+    place: Place,
+    name: Name,
+) -> Result<Vec<i64>, ProblemError>
+    ensures { Gives (λ v. v.items) result (integers_at place name (table_view table.now)) }
 {
-    as_integers(alloc, value_at(table, name)?)
+    as_integers(alloc, value_at(table, place, name)?, place, name)
 }
 
-fn as_integers(alloc: Global, value: &Value) -> Result<Vec<i64>, ProblemError>
-    ensures { Gives (λ v. v.items) result (integers_of (view value.now)) }
+fn as_integers(
+    alloc: Global,
+    value: &Value,
+    place: Place,
+    name: Name,
+) -> Result<Vec<i64>, ProblemError>
+    ensures { Gives (λ v. v.items) result (integers_of place name (view value.now)) }
 {
     match value.as_array() {
-        Some(values) => integers_among(alloc, values.as_slice()),
-        None => Err(ProblemError::FormNotBuilt),
+        Some(values) => integers_among(alloc, values.as_slice(), place, name),
+        None => Err(ProblemError::WrongType { place, name }),
     }
 }
 
 #[tactic(auto, using(crate::proofs::Arrays::integers_next, crate::proofs::Arrays::integers_fail, crate::proofs::Arrays::integers_all))]
-fn integers_among(alloc: Global, values: &[Value]) -> Result<Vec<i64>, ProblemError>
-    ensures { Gives (λ v. v.items) result (integers_in (items_view values.now)) }
+fn integers_among(
+    alloc: Global,
+    values: &[Value],
+    place: Place,
+    name: Name,
+) -> Result<Vec<i64>, ProblemError>
+    ensures { Gives (λ v. v.items) result (integers_in place name (items_view values.now)) }
 {
     let mut numbers = Vec::new(alloc);
     for value in values {
-        let number = as_integer(value)?;
-        if numbers.push(number).is_err() {
-            return Err(ProblemError::NoMemory);
-        }
+        let number = as_integer(value, place, name)?;
+        numbers.push(number)?;
     }
     Ok(numbers)
 }
 
 /// The values of an array of tables at a key that has to be there.
 #[tactic(auto, unfolding(crate::specs::Tables::tables_at))]
-pub fn tables(table: &Table, name: Name) -> Result<&[Value], ProblemError>
-    ensures { GivesSurely (λ values. items_view values.now) result (tables_at name (table_view table.now)) }
+pub fn tables(table: &Table, place: Place, name: Name) -> Result<&[Value], ProblemError>
+    ensures read { GivesSurely (λ values. tables_among (items_view values.now)) result (tables_at place name (table_view table.now)) }
+    ensures count { IfOk result (λ values. length (tables_among (items_view values.now)) ≡ length values.now) }
 {
-    as_tables(value_at(table, name)?)
+    as_tables(value_at(table, place, name)?, place, name)
 }
 
-#[tactic(auto, using(crate::proofs::Arrays::tables_seen))]
-fn as_tables(value: &Value) -> Result<&[Value], ProblemError>
-    ensures { GivesSurely (λ values. items_view values.now) result (tables_of (view value.now)) }
+#[tactic(auto, using(crate::proofs::Arrays::tables_seen, crate::proofs::Arrays::tables_counted))]
+fn as_tables(value: &Value, place: Place, name: Name) -> Result<&[Value], ProblemError>
+    ensures read { GivesSurely (λ values. tables_among (items_view values.now)) result (tables_of place name (view value.now)) }
+    ensures count { IfOk result (λ values. length (tables_among (items_view values.now)) ≡ length values.now) }
 {
     match value.as_array() {
         Some(values) if are_tables(values.as_slice()) => Ok(values.as_slice()),
-        _ => Err(ProblemError::FormNotBuilt),
+        _ => Err(ProblemError::WrongType { place, name }),
     }
 }
 
@@ -125,11 +148,11 @@ fn are_tables(values: &[Value]) -> bool
 
 /// Every key of the list has to be there.
 #[tactic(auto, using(std::proofs::lemmas::List::drop_more))]
-pub fn check_present(table: &Table, names: &[Name]) -> Result<(), ProblemError>
-    ensures { GivesSurely (λ u. u) result (all_present names.now (table_view table.now)) }
+pub fn check_present(table: &Table, place: Place, names: &[Name]) -> Result<(), ProblemError>
+    ensures { GivesSurely (λ u. u) result (all_present place names.now (table_view table.now)) }
 {
     for name in names {
-        value_at(table, *name)?;
+        value_at(table, place, *name)?;
     }
     Ok(())
 }
@@ -147,35 +170,69 @@ fn first_unknown_key<'a>(table: &'a Table, names: &[Name]) -> Option<&'a String>
     table.keys().find(|key| !is_known_key(key.as_str(), names))
 }
 
+fn bytes(alloc: Global, text: &str) -> Result<Bytes, ProblemError>
+    ensures value { IfOk result (λ bytes. bytes ≡ text.now) }
+    ensures refused { IsOkUnless result ProblemError.NoMemory }
+{
+    Ok(Bytes::of(Vec::from_slice(alloc, text.as_bytes())?))
+}
+
 /// Every key of the table has to be one of the list.
-pub fn check_known(table: &Table, names: &[Name]) -> Result<(), ProblemError>
-    ensures { GivesSurely (λ u. u) result (all_known names.now (table_view table.now)) }
+pub fn check_known(
+    alloc: Global,
+    table: &Table,
+    place: Place,
+    names: &[Name],
+) -> Result<(), ProblemError>
+    ensures { Gives (λ u. u) result (all_known place names.now (table_view table.now)) }
 {
     match first_unknown_key(table, names) {
         None => Ok(()),
-        Some(_) => Err(ProblemError::FormNotBuilt),
+        Some(key) => Err(ProblemError::UnknownKey {
+            place,
+            key: bytes(alloc, key.as_str())?,
+        }),
     }
 }
 
 /// A number that has to be from `least` to `most`.
-pub fn limited(least: u8, most: u8, number: i64) -> Result<u8, ProblemError>
-    ensures read { GivesSurely (λ n. n) result (within least most number) }
+pub fn limited(
+    place: Place,
+    name: Name,
+    least: u8,
+    most: u8,
+    number: i64,
+) -> Result<u8, ProblemError>
+    ensures read { GivesSurely (λ n. n) result (within place name least most number) }
     ensures limits { IfOk result (λ n. (least ≤ n) × (n ≤ most)) }
 {
     if number < least as i64 || number > most as i64 {
-        return Err(ProblemError::FormNotBuilt);
+        return Err(ProblemError::OutOfLimits { place, name });
     }
     Ok(number as u8)
 }
 
-/// A rule that has to hold.
-pub fn check(holds: bool) -> Result<(), ProblemError>
-    ensures read { GivesSurely (λ u. u) result (keep holds) }
+/// A number of elements that has to be from `least` to `most`.
+pub fn check_count(
+    place: Place,
+    name: Name,
+    least: usize,
+    most: usize,
+    count: usize,
+) -> Result<(), ProblemError>
+    ensures read { GivesSurely (λ u. u) result (count_within place name least most count) }
+    ensures limits { OnOk result ((least ≤ count) × (count ≤ most)) }
+{
+    check(
+        least <= count && count <= most,
+        ProblemError::OutOfLimits { place, name },
+    )
+}
+
+/// A rule that has to hold, or else this refusal.
+pub fn check(holds: bool, refusal: ProblemError) -> Result<(), ProblemError>
+    ensures read { GivesSurely (λ u. u) result (keep holds refusal) }
     ensures holds { OnOk result (holds ≡ true) }
 {
-    if holds {
-        Ok(())
-    } else {
-        Err(ProblemError::FormNotBuilt)
-    }
+    if holds { Ok(()) } else { Err(refusal) }
 }

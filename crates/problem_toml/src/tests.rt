@@ -1,203 +1,309 @@
+use crate::tests::cases::{AT_THE_TOP, INTEGRALS, TERMS};
 use crate::{ProblemError, append_refusal, read, refusal_line};
-use residue::Class;
+use residue::{Class, Term};
 use std::alloc::Global;
 use std::test::Fail;
 
-// The 27 lines on a cubic surface in space.
-const LINES: [(&str, &str); 9] = [
+mod cases;
+
+// A text of version 1: Kontsevich's sum for the first direct image of O(-1) squared, on maps of degree 2 to the line.
+const VERSION_1: [(&str, &str); 8] = [
     ("version", "version = 1\n"),
-    ("rank", "rank = 3\n"),
-    ("degree", "degree = 1\n"),
-    ("marks", ""),
-    ("weights", "weights = [1, 10, 100, 1000]\n"),
-    ("moduli", "moduli = [1000000007]\n"),
-    ("numerator_bound", "numerator_bound = 1000\n"),
-    ("denominator_bound", "denominator_bound = 1000\n"),
+    ("rank", "rank = 1\n"),
+    ("degree", "degree = 2\n"),
+    ("weights", "weights = [1, 3]\n"),
+    ("moduli", "moduli = [101, 1001]\n"),
+    ("numerator_bound", "numerator_bound = 100\n"),
+    ("denominator_bound", "denominator_bound = 100\n"),
     (
         "term",
-        "[[term]]\nclasses = [{ kind = \"hypersurface\", b = 3 }]\n",
+        "term = [{ classes = [{ kind = 'r1', k = 1, power = 2 }] }]\n",
     ),
 ];
 
-// That text with other lines for one key.
-fn with(alloc: Global, key: &str, lines: &str) -> Result<String, Fail> {
+// A text of version 2, of two integrals over the maps of degree 1 to the line.
+const VERSION_2: [(&str, &str); 8] = [
+    ("version", "version = 2\n"),
+    ("rank", "rank = 1\n"),
+    ("degree", "degree = 1\n"),
+    ("weights", "weights = [1, 3]\n"),
+    ("moduli", "moduli = [101]\n"),
+    ("numerator_bound", "numerator_bound = 10\n"),
+    ("denominator_bound", "denominator_bound = 4\n"),
+    (
+        "integral",
+        "integral = [{ term = [{ classes = [] }] }, { term = [{ coefficient = -3, classes = [] }] }]\n",
+    ),
+];
+
+const CONICS: &str = "# conics on the quintic threefold
+version = 1
+rank = 4
+degree = 2
+marks = 0
+weights = [1, 10, 100, 1000, 10000]
+moduli = [1_000_000_007]
+numerator_bound = 10_000_000
+denominator_bound = 50
+
+[[term]]
+coefficient = 1
+
+[[term.classes]]
+kind = \"hypersurface\"
+b = 5
+";
+
+const ALL_KINDS: &str = "version = 2
+rank = 2
+degree = 1
+marks = 2
+weights = [-1, 0, 7]
+moduli = [9, 11]
+numerator_bound = 7
+denominator_bound = 6
+
+[[integral]]
+term = [{ classes = [{ kind = 'mark', mark = 1 }, { kind = 'psi', mark = 2 }, { kind = 'incidence', q = 3 }] }]
+
+[[integral]]
+[[integral.term]]
+coefficient = -3
+classes = [{ kind = 'contact' }, { kind = 'hypersurface', b = 1 }, { kind = 'r1', k = 2 }]
+[[integral.term]]
+classes = [{ kind = 'contact', power = 4 }]
+";
+
+// The version of a text, and its terms or integrals, of which a part is repeated, and what comes of it.
+const COUNTS: [(u8, &str, &str, u8, &str, &str); 9] = [
+    (
+        1,
+        "term = [{ classes = [",
+        "{ kind = 'r1', k = 1 }, ",
+        16,
+        "] }]\n",
+        "14 WrongDegree 0 16 2",
+    ),
+    (
+        1,
+        "term = [{ classes = [",
+        "{ kind = 'r1', k = 1 }, ",
+        17,
+        "] }]\n",
+        "7 OutOfLimits term 0 classes",
+    ),
+    (
+        1,
+        "term = [",
+        "{ classes = [{ kind = 'r1', k = 1, power = 2 }] }, ",
+        32,
+        "]\n",
+        "read",
+    ),
+    (
+        1,
+        "term = [",
+        "{ classes = [{ kind = 'r1', k = 1, power = 2 }] }, ",
+        33,
+        "]\n",
+        "7 OutOfLimits top term",
+    ),
+    (
+        2,
+        "integral = [",
+        "{ term = [{ classes = [] }] }, ",
+        8,
+        "]\n",
+        "read",
+    ),
+    (
+        2,
+        "integral = [",
+        "{ term = [{ classes = [] }] }, ",
+        9,
+        "]\n",
+        "7 OutOfLimits top integral",
+    ),
+    (
+        2,
+        "integral = [{ term = [",
+        "{ classes = [] }, ",
+        31,
+        "] }, { term = [{ classes = [] }] }]\n",
+        "read",
+    ),
+    (
+        2,
+        "integral = [{ term = [",
+        "{ classes = [] }, ",
+        31,
+        "] }, { term = [{ classes = [] }, { }] }]\n",
+        "7 OutOfLimits integral 1 term",
+    ),
+    (
+        2,
+        "integral = [{ term = [",
+        "{ classes = [] }, ",
+        32,
+        "] }, { term = [{ classes = [] }] }]\n",
+        "7 OutOfLimits integral 1 term",
+    ),
+];
+
+// A text without some keys, and with some lines more.
+fn text_with(
+    alloc: Global,
+    lines: &[(&str, &str)],
+    without: &str,
+    more: &str,
+) -> Result<String, Fail> {
     let mut text = String::new(alloc);
-    for (name, line) in LINES {
-        text.push_str(if name == key { lines } else { line })?;
+    for (key, line) in lines {
+        if !without.contains(*key) {
+            text.push_str(line)?;
+        }
+    }
+    for line in more.split("; ") {
+        text.push_str(line)?;
+        text.push('\n')?;
     }
     Ok(text)
 }
 
-// What is printed of a reading.
+// What is printed of a reading after `problem refused`.
 fn outcome(alloc: Global, text: &[u8]) -> Result<String, Fail> {
-    Ok(match read(alloc, text) {
-        Ok(problem) => {
-            let integrals = problem.integrals.len();
-            format!(in alloc;
-                "read {} {} {} {integrals}",
-                problem.r, problem.d, problem.m
-            )?
-        }
+    let line = match read(alloc, text) {
+        Ok(_) => Vec::from_slice(alloc, b"read")?,
         Err(error) => {
-            let line = refusal_line(alloc, &error).ok().ok_or("no memory")?;
-            String::from_utf8(line).ok().ok_or("no text")?
+            let mut line = Vec::new(alloc);
+            append_refusal(&mut line, &error).ok().ok_or("no memory")?;
+            line
         }
-    })
+    };
+    Ok(String::from_utf8(line).ok().ok_or("no text")?)
+}
+
+// The first case of which something else comes than is wanted, or nothing.
+fn first_difference(alloc: Global, lines: &[(&str, &str)], cases: &str) -> Result<String, Fail> {
+    for case in cases.lines() {
+        let (without, rest) = case.split_once(" => ").ok_or("no case")?;
+        let (more, wanted) = rest.split_once(" => ").ok_or("no case")?;
+        let text = text_with(alloc, lines, without, more)?;
+        let found = outcome(alloc, text.as_bytes())?;
+        if found.as_str() != wanted {
+            return Ok(format!(in alloc; "{case}: {found}")?);
+        }
+    }
+    Ok(String::new(alloc))
 }
 
 #[test]
-fn reads_the_lines_on_a_cubic_surface(rt: HostRuntime) -> Result<(), Fail> {
-    let alloc = rt.alloc();
-    let text = with(alloc, "", "")?;
-    let problem = read(alloc, text.as_bytes()).ok().ok_or("refused")?;
-    assert_eq!(rt; (problem.r, problem.d, problem.m), (3, 1, 0));
-    assert_eq!(rt; (problem.top_bound, problem.bottom_bound), (1000, 1000));
-    assert_eq!(rt; problem.setup.rank(), 3);
-    assert_eq!(rt; problem.setup.weight(2), 100);
+fn reads_the_conics_on_a_quintic_threefold(rt: HostRuntime) -> Result<(), Fail> {
+    let problem = read(rt.alloc(), CONICS.as_bytes()).ok().ok_or("refused")?;
+    let shape = problem.shape;
+    assert_eq!(rt; (shape.r(), shape.d(), shape.m()), (4, 2, 0));
+    assert_eq!(rt; problem.setup.rank(), 4);
+    assert_eq!(rt; problem.setup.weight(3), 1000);
     assert_eq!(rt; problem.moduli.len(), 1);
     assert_eq!(rt; problem.moduli.get(0).get(), 1_000_000_007);
+    assert_eq!(rt; (problem.top_bound, problem.bottom_bound), (10_000_000, 50));
     assert_eq!(rt; problem.integrals.len(), 1);
     let terms = problem.integrals.get(0);
     assert_eq!(rt; terms.len(), 1);
-    let term = terms.get(0);
-    assert_eq!(rt; term.coefficient, 1);
-    assert_eq!(rt; term.classes.len(), 1);
-    let power = term.classes.get(0);
-    assert_eq!(rt; power.class, Class::Hypersurface { b: 3 });
-    assert_eq!(rt; power.power, 1);
+    assert_eq!(rt; terms.get(0).coefficient, 1);
+    let classes = &terms.get(0).classes;
+    assert_eq!(rt; classes.len(), 1);
+    assert_eq!(rt; classes.get(0).class, Class::Hypersurface { b: 5 });
+    assert_eq!(rt; classes.get(0).power, 1);
+    Ok(())
+}
+
+fn are_powers(term: &Term, wanted: &[(Class, u8)]) -> bool {
+    let classes = term.classes.as_slice();
+    classes.len() == wanted.len()
+        && classes
+            .iter()
+            .zip(wanted)
+            .all(|(power, wanted)| (power.class, power.power) == *wanted)
+}
+
+#[test]
+fn reads_each_kind_of_class(rt: HostRuntime) -> Result<(), Fail> {
+    let problem = read(rt.alloc(), ALL_KINDS.as_bytes())
+        .ok()
+        .ok_or("refused")?;
+    assert_eq!(rt; problem.shape.m(), 2);
+    assert_eq!(rt; problem.setup.weight(0), -1);
+    assert_eq!(rt; problem.moduli.len(), 2);
+    assert_eq!(rt; problem.moduli.get(1).get(), 11);
+    let first = [
+        (Class::Mark { mark: 1 }, 1),
+        (Class::Psi { mark: 2 }, 1),
+        (Class::Incidence { q: 3 }, 1),
+    ];
+    let second = [
+        (Class::Contact, 1),
+        (Class::Hypersurface { b: 1 }, 1),
+        (Class::R1 { k: 2 }, 1),
+    ];
+    let integrals = problem.integrals.as_slice();
+    let [one, two] = integrals else {
+        return Err("two integrals were written".into());
+    };
+    let ([term], [other, last]) = (one.as_slice(), two.as_slice()) else {
+        return Err("one term and two were written".into());
+    };
+    assert_eq!(rt;
+        (term.coefficient, other.coefficient, last.coefficient),
+        (1, -3, 1)
+    );
+    assert!(rt; are_powers(term, &first));
+    assert!(rt; are_powers(other, &second));
+    assert!(rt; are_powers(last, &[(Class::Contact, 4)]));
     Ok(())
 }
 
 #[test]
-fn reads_and_refuses_by_the_rules(rt: HostRuntime) -> Result<(), Fail> {
-    let alloc = rt.alloc();
-    let read = "read 3 1 0 1";
-    let form = "problem refused 102 FormNotBuilt";
-    let cases = [
-        ("", "", read),
-        ("version", "", form),
-        ("version", "version = 2\n", form),
-        ("version", "version = \"1\"\n", form),
-        ("version", "version = 0x1\n", read),
-        ("version", "version = \n", "problem refused 2 NotToml"),
-        ("rank", "rank = 0\n", form),
-        ("rank", "rank = 2\n", form),
-        ("rank", "rank = 13\n", form),
-        ("degree", "", form),
-        ("degree", "degree = 0\n", form),
-        ("degree", "degree = 1.0\n", form),
-        (
-            "degree",
-            "degree = 2\n",
-            "problem refused 101 DegreeNotBuilt 2",
-        ),
-        (
-            "degree",
-            "degree = 9223372036854775807\n",
-            "problem refused 101 DegreeNotBuilt 9223372036854775807",
-        ),
-        ("marks", "marks = 0\n", read),
-        ("marks", "marks = 1\n", form),
-        ("marks", "marks = \"0\"\n", form),
-        ("marks", "colour = 1\n", form),
-        ("weights", "weights = [1, 10, 100]\n", form),
-        ("weights", "weights = [1, 10, 100, 1000, 10000]\n", form),
-        ("weights", "weights = [1, 10, 100, -1000000000]\n", read),
-        ("weights", "weights = [1, 10, 100, -1000000001]\n", form),
-        ("weights", "weights = [1, 10, 100, 1000000001]\n", form),
-        ("weights", "weights = [1, 10, 100, 1000.0]\n", form),
-        ("moduli", "moduli = []\n", form),
-        ("moduli", "moduli = [1000000007, 1000000009]\n", form),
-        ("moduli", "moduli = [1000000008]\n", form),
-        ("moduli", "moduli = [1]\n", form),
-        ("moduli", "moduli = [-1000000007]\n", form),
-        ("moduli", "moduli = [4611686018427387903]\n", read),
-        ("moduli", "moduli = [4611686018427387905]\n", form),
-        ("numerator_bound", "numerator_bound = 0\n", form),
-        ("numerator_bound", "numerator_bound = 500000\n", read),
-        ("numerator_bound", "numerator_bound = 500001\n", form),
-        (
-            "numerator_bound",
-            "numerator_bound = 4611686018427387904\n",
-            form,
-        ),
-        ("denominator_bound", "denominator_bound = -1\n", form),
-    ];
-    for (key, lines, wanted) in cases {
-        let text = with(alloc, key, lines)?;
-        let found = outcome(alloc, text.as_bytes())?;
-        assert_eq!(rt; found.as_str(), wanted, "at {lines:?}");
-    }
+fn refuses_by_the_first_rule_that_is_broken(rt: HostRuntime) -> Result<(), Fail> {
+    let difference = first_difference(rt.alloc(), &VERSION_1, AT_THE_TOP)?;
+    assert_eq!(rt; difference.as_str(), "");
     Ok(())
 }
 
 #[test]
-fn reads_and_refuses_terms(rt: HostRuntime) -> Result<(), Fail> {
+fn refuses_terms(rt: HostRuntime) -> Result<(), Fail> {
+    let difference = first_difference(rt.alloc(), &VERSION_1, TERMS)?;
+    assert_eq!(rt; difference.as_str(), "");
+    Ok(())
+}
+
+#[test]
+fn refuses_integrals(rt: HostRuntime) -> Result<(), Fail> {
+    let difference = first_difference(rt.alloc(), &VERSION_2, INTEGRALS)?;
+    assert_eq!(rt; difference.as_str(), "");
+    Ok(())
+}
+
+#[test]
+fn counts_elements(rt: HostRuntime) -> Result<(), Fail> {
     let alloc = rt.alloc();
-    let read = "read 3 1 0 1";
-    let form = "problem refused 102 FormNotBuilt";
-    let cases = [
-        ("term = []\n", form),
-        ("[term]\nclasses = []\n", form),
-        ("[[term]]\n", form),
-        ("[[term]]\nclasses = []\n", form),
-        ("[[term]]\nclasses = [1]\n", form),
-        (
-            "[[term]]\ncoefficient = -1000000000\nclasses = [{ kind = \"hypersurface\", b = 3 }]\n",
-            read,
-        ),
-        (
-            "[[term]]\ncoefficient = 1000000001\nclasses = [{ kind = \"hypersurface\", b = 3 }]\n",
-            form,
-        ),
-        (
-            "[[term]]\nweight = 1\nclasses = [{ kind = \"hypersurface\", b = 3 }]\n",
-            form,
-        ),
-        (
-            "[[term]]\nclasses = [{ kind = \"hypersurface\", b = 1, power = 2 }]\n",
-            read,
-        ),
-        (
-            "[[term]]\nclasses = [{ kind = \"hypersurface\", b = 1 }, { kind = \"hypersurface\", b = 1 }]\n",
-            read,
-        ),
-        (
-            "[[term]]\nclasses = [{ kind = \"hypersurface\", b = 2 }]\n",
-            form,
-        ),
-        (
-            "[[term]]\nclasses = [{ kind = \"hypersurface\", b = 0 }]\n",
-            form,
-        ),
-        (
-            "[[term]]\nclasses = [{ kind = \"hypersurface\", b = 65 }]\n",
-            form,
-        ),
-        (
-            "[[term]]\nclasses = [{ kind = \"hypersurface\", b = 3, power = 0 }]\n",
-            form,
-        ),
-        (
-            "[[term]]\nclasses = [{ kind = \"hypersurface\", b = 3, q = 2 }]\n",
-            form,
-        ),
-        ("[[term]]\nclasses = [{ kind = \"hypersurface\" }]\n", form),
-        (
-            "[[term]]\nclasses = [{ kind = \"incidence\", q = 5 }]\n",
-            form,
-        ),
-        ("[[term]]\nclasses = [{ kind = 1, b = 3 }]\n", form),
-        ("[[term]]\nclasses = [{ b = 3 }]\n", form),
-        (
-            "[[term]]\nclasses = [{ kind = \"hypersurface\", b = 3 }]\n[[term]]\nclasses = [{ kind = \"hypersurface\", b = 3 }]\n",
-            form,
-        ),
-    ];
-    for (lines, wanted) in cases {
-        let text = with(alloc, "term", lines)?;
-        let found = outcome(alloc, text.as_bytes())?;
-        assert_eq!(rt; found.as_str(), wanted, "at {lines:?}");
+    for (version, front, part, times, back, wanted) in COUNTS {
+        let mut line = String::new(alloc);
+        line.push_str(front)?;
+        for _ in 0..times {
+            line.push_str(part)?;
+        }
+        line.push_str(back)?;
+        let text = if version == 1 {
+            text_with(alloc, &VERSION_1, "term", line.as_str())?
+        } else {
+            text_with(alloc, &VERSION_2, "integral", line.as_str())?
+        };
+        assert_eq!(rt;
+            outcome(alloc, text.as_bytes())?.as_str(),
+            wanted,
+            "at {times} of {part}"
+        );
     }
     Ok(())
 }
@@ -205,50 +311,34 @@ fn reads_and_refuses_terms(rt: HostRuntime) -> Result<(), Fail> {
 #[test]
 fn refuses_what_is_no_text_or_too_long(rt: HostRuntime) -> Result<(), Fail> {
     let alloc = rt.alloc();
-    assert_eq!(rt;
-        outcome(alloc, b"")?.as_str(),
-        "problem refused 102 FormNotBuilt"
-    );
-    assert_eq!(rt;
-        outcome(alloc, b"# \xff")?.as_str(),
-        "problem refused 2 NotToml"
-    );
-    let mut blank = vec![in alloc; b'\n'; 1_048_576]?;
-    assert_eq!(rt;
-        outcome(alloc, blank.as_slice())?.as_str(),
-        "problem refused 102 FormNotBuilt"
-    );
-    blank.push(b'\n')?;
-    assert_eq!(rt;
-        outcome(alloc, blank.as_slice())?.as_str(),
-        "problem refused 1 TooLong"
-    );
+    let mut text = text_with(alloc, &VERSION_1, "", "# \u{ff}")?.into_bytes();
+    assert_eq!(rt; outcome(alloc, text.as_slice())?.as_str(), "read");
+    text.push(255)?;
+    assert_eq!(rt; outcome(alloc, text.as_slice())?.as_str(), "2 NotToml");
+    text.pop();
+    for _ in text.len()..1_048_576 {
+        text.push(b'#')?;
+    }
+    assert_eq!(rt; outcome(alloc, text.as_slice())?.as_str(), "read");
+    text.push(255)?;
+    assert_eq!(rt; outcome(alloc, text.as_slice())?.as_str(), "1 TooLong");
     Ok(())
 }
 
 #[test]
-fn numbers_and_names_each_refusal(rt: HostRuntime) -> Result<(), Fail> {
+fn prints_and_numbers_refusals(rt: HostRuntime) -> Result<(), Fail> {
     let alloc = rt.alloc();
-    let cases = [
-        (ProblemError::NoMemory, None, "why: "),
-        (ProblemError::TooLong, Some(1), "why: 1 TooLong"),
-        (ProblemError::NotToml, Some(2), "why: 2 NotToml"),
-        (
-            ProblemError::DegreeNotBuilt { degree: 10 },
-            Some(101),
-            "why: 101 DegreeNotBuilt 10",
-        ),
-        (
-            ProblemError::FormNotBuilt,
-            Some(102),
-            "why: 102 FormNotBuilt",
-        ),
-    ];
-    for (error, number, wanted) in cases {
-        assert_eq!(rt; error.number(), number, "at {wanted}");
-        let mut line = Vec::from_slice(alloc, b"why: ")?;
-        assert!(rt; append_refusal(&mut line, &error).is_ok());
-        assert_eq!(rt; line.as_slice(), wanted.as_bytes());
-    }
+    let line = refusal_line(alloc, &ProblemError::TooManyTrees)
+        .ok()
+        .ok_or("no memory")?;
+    assert_eq!(rt;
+        line.as_slice(),
+        b"problem refused 15 TooManyTrees".as_slice()
+    );
+    assert_eq!(rt; ProblemError::TooManyTrees.number(), Some(15));
+    let mut line = Vec::new(alloc);
+    assert!(rt; append_refusal(&mut line, &ProblemError::NoMemory).is_ok());
+    assert!(rt; line.is_empty());
+    assert_eq!(rt; ProblemError::NoMemory.number(), None);
     Ok(())
 }

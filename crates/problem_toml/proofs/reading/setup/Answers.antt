@@ -1,5 +1,0 @@
-use Rattle.problem_toml.proofs.ProblemLaws.{no_cause}
-use Rattle.problem_toml.proofs.reading.setup.Goals as goal
-
-pub returns-in-Err-clause-read : goal.returns-in-Err-clause-read
-returns-in-Err-clause-read c = absurd (no_cause c.in-Err.field-0 c.new.result c.args.weights.now c.args.rank c.in-Err.is c.in_ok-check.ensures.holds c.requires.least_rank c.requires.most_rank c.requires.limits c.new.ensures.count c.new.ensures.weight)
