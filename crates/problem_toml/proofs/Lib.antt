@@ -6,3 +6,6 @@ mod ModulusLists
 mod ProblemLaws
 mod TermArrays
 mod Texts
+pub mod Inserts
+pub mod Rereading
+pub mod GeneratedRules

@@ -10,3 +10,5 @@ pub mod Steps
 pub mod Tables
 pub mod Terms
 pub mod Versions
+pub mod Writing
+pub mod Generator

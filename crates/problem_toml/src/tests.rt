@@ -5,6 +5,7 @@ use std::alloc::Global;
 use std::test::Fail;
 
 mod cases;
+mod writing;
 
 // A text of version 1: Kontsevich's sum for the first direct image of O(-1) squared, on maps of degree 2 to the line.
 const VERSION_1: [(&str, &str); 8] = [
