@@ -1,0 +1,3 @@
+pub mod LowestTerms
+pub mod Integrals
+pub mod Sums

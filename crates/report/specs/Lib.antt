@@ -1,0 +1,4 @@
+pub mod Outcome
+pub mod Fractions
+pub mod Texts
+pub mod Report

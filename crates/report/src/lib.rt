@@ -1,0 +1,9 @@
+//! The text that is printed of the sum of a problem: the residues and the fraction of each integral, or the least tree
+//! without an inverse.
+#![tactic(auto)]
+
+mod fractions;
+mod report;
+mod text;
+
+pub use report::{Report, done, no_inverse};
