@@ -3,17 +3,18 @@
 ghost use Rattle.std.specs.Prelude.{◌≡◌, ◌≢◌, ◌↔◌, ◌⊎◌, codes, map, string_bytes, option_map, Option, Some, None, Ok, Err, IfOk, IfErr, IfSome, IsOk};
 ghost use Rattle.locus_io.specs.Causes.{Rose, RoseBy, Stayed};
 ghost use Rattle.locus_io.specs.Content.{file_of, Appends, AppendsFront};
-ghost use Rattle.problem_toml.specs.Problems.{view as problem_view};
+ghost use Rattle.problem.specs.Problems.{view as problem_view};
 ghost use Rattle.problem_toml.specs.Reading.{reading};
+ghost use Rattle.report.specs.Report.{IsReport};
 ghost use Rattle.locus_core.specs.Words.{file_named};
 ghost use Rattle.locus_core.specs.Texts.{refused_line};
-ghost use Rattle.locus_core.specs.Report.{IsReport};
-ghost use Rattle.locus_core.specs.Run.{IsStatus, input_of, loaded, ForProblem, ForRefusal, PrintsResidues, NamesLeastBad, PrintsFront, WritesLine};
+ghost use Rattle.locus_core.specs.Run.{IsDoneStatus, IsSumStatus, IsStatus, input_of, loaded, ForProblem, ForRefusal, PrintsResidues, PrintsFractions, HasBadTree, NamesLeastBad, PrintsFront, WritesLine};
 
-use crate::report::{Report, outcome_report};
+use crate::outcome::outcome_report;
 use crate::words::file_name;
 use locus_io::{Failed, Files, LoadError, Sink, put_all};
 use problem_toml::{ProblemError, read, refusal_line};
+use report::Report;
 use residue::NoMemory;
 use std::alloc::Global;
 
@@ -23,8 +24,8 @@ const MOST_LOADED: u64 = 1_048_577;
 /// How a run ended.
 #[derive(Clone, Copy, Debug, PartialEq, Eq, Drop)]
 pub struct Answer {
-    /// The exit status: 0 done, 2 words refused, 3 problem refused, 4 no inverse, 6 read fault, 7 write fault, 9 want
-    /// of memory.
+    /// The exit status: 0 done with a fraction for each integral, 1 done where some integral has none, 2 words refused,
+    /// 3 problem refused, 4 no inverse, 6 read fault, 7 write fault, 9 want of memory.
     pub status: u8,
 }
 
@@ -46,18 +47,27 @@ pub fn locus<F: Files, O: Sink, E: Sink>(
     ensures words { (result.status ≡ 2) ↔ (file_named (map string_bytes words.now) ≡ None) }
 
     // Status 3 comes only where the bytes of the file are no problem, and the line tells the first rule that they
-    // break. Statuses 0, 4 and 7 come only where they are one.
+    // break. Statuses 0, 1, 4 and 7 come only where they are one.
     ensures refused { result.status ≡ 3 → ForRefusal (F.content files.old) (map string_bytes words.now)
         (λ error. WritesLine (E.written err.old) (E.written err.new) (E.faults err.old) (E.faults err.new) (refused_line error)) }
-    ensures accepted { (result.status ≡ 0) ⊎ (result.status ≡ 4) ⊎ (result.status ≡ 7) →
+    ensures accepted { IsSumStatus result.status ⊎ (result.status ≡ 7) →
         IfSome (input_of (F.content files.old) (map string_bytes words.now)) (λ bytes. IsOk (reading bytes)) }
 
-    // At status 0 each printed residue is the residue of its integral's Kontsevich sum over all decorated trees, those
-    // of n vertices divided by n!.
-    ensures residues { result.status ≡ 0 → ForProblem (F.content files.old) (map string_bytes words.now)
+    // At status 0 and 1 each printed residue is the residue of its integral's Kontsevich sum over all decorated trees,
+    // those of n vertices divided by n!.
+    ensures residues { IsDoneStatus result.status → ForProblem (F.content files.old) (map string_bytes words.now)
         (PrintsResidues (O.written out.old) (O.written out.new)) }
 
-    // At status 4 the least tree without an inverse is named, with the first modulus for which it has none.
+    // At status 0 and 1 the pair printed for an integral is its agreeing pair, and no other pair agrees with it. Status
+    // 1 comes exactly where the sum is done and no pair agrees with some integral. Where the sum of an integral in
+    // lowest terms lies within the bounds, the fraction printed for it is that sum.
+    ensures fraction { IsDoneStatus result.status → ForProblem (F.content files.old) (map string_bytes words.now)
+        (PrintsFractions result.status (O.written out.old) (O.written out.new)) }
+
+    // Of the statuses 0, 1 and 4, 4 comes exactly where some tree has no inverse. Then the least such tree is named, with
+    // the first modulus for which it has none.
+    ensures bad { IsSumStatus result.status → ForProblem (F.content files.old) (map string_bytes words.now)
+        (λ p. (result.status ≡ 4) ↔ HasBadTree p) }
     ensures refusal { result.status ≡ 4 → ForProblem (F.content files.old) (map string_bytes words.now)
         (NamesLeastBad (O.written out.old) (O.written out.new)) }
 
@@ -75,7 +85,7 @@ pub fn locus<F: Files, O: Sink, E: Sink>(
     // Nothing goes to the output where something is refused, and nothing to standard error where it is not.
     ensures out_kept { (result.status ≡ 2) ⊎ (result.status ≡ 3) ⊎ (result.status ≡ 6) ⊎ (result.status ≡ 9) →
         O.written out.new ≡ O.written out.old }
-    ensures err_kept { (result.status ≡ 0) ⊎ (result.status ≡ 4) → E.written err.new ≡ E.written err.old }
+    ensures err_kept { IsSumStatus result.status → E.written err.new ≡ E.written err.old }
     ensures words_line { result.status ≡ 2 →
         WritesLine (E.written err.old) (E.written err.new) (E.faults err.old) (E.faults err.new) (codes "words refused\n") }
     ensures read_line { result.status ≡ 6 →
@@ -103,7 +113,7 @@ pub fn locus<F: Files, O: Sink, E: Sink>(
 fn run(alloc: Global, text: &[u8]) -> Result<Report, ProblemError>
     ensures ok { IfOk result (λ report. IfOk (reading text.now) (λ p. IsReport p report.status report.text.items)) }
     ensures accepted { IfOk result (λ report. IsOk (reading text.now)) }
-    ensures status { IfOk result (λ report. (report.status ≡ 0) ⊎ (report.status ≡ 4)) }
+    ensures status { IfOk result (λ report. IsSumStatus report.status) }
     ensures err { IfErr result (λ error. error ≢ ProblemError.NoMemory → reading text.now ≡ Err error) }
 {
     let problem = read(alloc, text)?;
@@ -157,15 +167,13 @@ fn whole_line(alloc: Global, error: &ProblemError) -> Result<Vec<u8>, NoMemory>
     ensures { IfOk result (λ line. line.items ≡ refused_line error.now) }
 {
     let mut line = refusal_line(alloc, error)?;
-    match line.push(b'\n') {
-        Ok(()) => Ok(line),
-        Err(_) => Err(NoMemory),
-    }
+    line.push(b'\n')?;
+    Ok(line)
 }
 
 /// Writes the text of a report, and ends the run with its status where that passes.
 fn print<O: Sink, E: Sink>(out: &mut O, err: &mut E, report: Report) -> Answer
-    requires { (report.status ≡ 0) ⊎ (report.status ≡ 4) }
+    requires { IsSumStatus report.status }
     ensures done { result.status ≢ 7 → (result.status ≡ report.status)
         × Appends (O.written out.old) (O.written out.new) report.text.items
         × (O.faults out.new ≡ O.faults out.old) × (E.written err.new ≡ E.written err.old) }

@@ -1,4 +1,4 @@
-use Rattle.std.proofs.Common.{◌≡◌, ◌∙◌, List, subst}
+use Rattle.std.proofs.Common.{◌∙◌, subst}
 use Rattle.locus_core.specs.Run.{WritesLine}
 use Rattle.locus_core.proofs.top.refuse_problem.Goals as goal
 
