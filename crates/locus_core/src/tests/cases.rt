@@ -15,8 +15,7 @@ const TWO_INTEGRALS: &str = "[[integral]]\n[[integral.term]]\nclasses = []\n\
     [[integral]]\n[[integral.term]]\ncoefficient = -3\nclasses = []\n";
 
 // Lines in space.
-const SPACE: &str =
-    "rank = 3\ndegree = 1\nweights = [1, 10, 100, 1000]\nmoduli = [1000000007]\n\
+const SPACE: &str = "rank = 3\ndegree = 1\nweights = [1, 10, 100, 1000]\nmoduli = [1000000007]\n\
     numerator_bound = 1000\ndenominator_bound = 1000\n";
 
 // Conics in the projective line.
