@@ -128,3 +128,14 @@ times_value m n f g r h =
   where
     turned : (f g k : ℕ) → f * g * k * k ≡ f * k * (g * k)
     turned f g k = omega arith
+
+-- the sum of two forms is the form of the sum
+pub sum_value : (m n f g r : ℕ) → r ≡ (f + g) % m → over_word m n r ≡ (over_word m n f + over_word m n g) % m
+unfolding over_word
+sum_value m n f g r h =
+    let k = (m * n + 1) / 2 ^ 64 in
+    (same_trans (same_mul (same_trans (same_of_eq m r _ h) (same_mod m (f + g))) (same_refl m k))
+    (same_trans (same_of_eq m _ _ (turned f g k)) (same_sym (same_add (over m n f) (over m n g))))).is
+  where
+    turned : (f g k : ℕ) → (f + g) * k ≡ f * k + g * k
+    turned f g k = omega arith

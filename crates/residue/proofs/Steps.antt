@@ -1,5 +1,5 @@
 -- Steps of the loops that raise to a power and look for an inverse.
-use Rattle.std.proofs.Common.{refl, ◌≡◌, ◌≢◌, ℕ, ◌+◌, ◌-◌, ◌*◌, ◌/◌, ◌%◌, ◌^◌, ◌<◌, ◌≤◌, suc, sym, ap, ◌∙◌, arith, mod-lt, mul_assoc, mul-one, mod-eq_of_lt}
+use Rattle.std.proofs.Common.{refl, ◌≡◌, ◌≢◌, ℕ, ◌+◌, ◌-◌, ◌*◌, ◌/◌, ◌%◌, ◌^◌, ◌<◌, ◌≤◌, zero, suc, sym, ap, ◌∙◌, arith, mod-lt, mul_assoc, mul-one, mod-eq_of_lt}
 use Rattle.std.proofs.lemmas.Nat.{mul-pow, pow-add}
 use Rattle.std.proofs.Math.Nat.{pow-succ', pow-zero, mod-mod}
 use Rattle.arithmetic.proofs.Divisors.{inverse_step}
@@ -27,15 +27,23 @@ odd_step m r s left next more odd e f =
 pub first_step : (m r s x n : ℕ) → r ≡ 1 → s ≡ x → (r * s ^ n) % m ≡ (x ^ n) % m
 first_step m r s x n e f = rw (e, f) (ap (λ y. y % m) (let l : 1 * x ^ n ≡ x ^ n = omega arith in l))
 
+-- the powers of 1 are 1
+pub power_of_one : (m x n : ℕ) → 3 ≤ m → x ≡ 1 → 1 ≡ (x ^ n) % m
+power_of_one m x n h e = sym (rw e (ap (λ y. y % m) (one_to n) ∙ mod-eq_of_lt (omega arith)))
+  where
+    one_to : (n : ℕ) → 1 ^ n ≡ 1
+    one_to zero = pow-zero 1
+    one_to (suc n) = pow-succ' 1 n ∙ ap (λ y. 1 * y) (one_to n)
+
 pub below_by : (m self next z : ℕ) → m ≡ self → next ≡ z % self → 0 < m → next < m
 below_by m self next z e f h = rw (f, ← e) (mod-lt z h)
 
 -- one step of the extended algorithm, where the modulus is read at two places
-pub inverse_step_at : (m self x a b s t product next : ℕ) → m ≡ self → t < m → (s * x) % m ≡ a % m → (t * x) % m ≡ b % m
-    → product ≡ ((a / b % m) * t) % self → next ≡ (s + (self - product)) % self → (next * x) % m ≡ (a % b) % m
-inverse_step_at m self x a b s t product next e below hs ht f g =
+pub inverse_step_at : (m self x a b q s t product next : ℕ) → m ≡ self → t < m → (s * x) % m ≡ a % m → (t * x) % m ≡ b % m
+    → q ≡ a / b % self → product ≡ (q * t) % self → next ≡ (s + (self - product)) % self → (next * x) % m ≡ (a % b) % m
+inverse_step_at m self x a b q s t product next e below hs ht hq f g =
     inverse_step m x a b s t next below hs ht
-    (g ∙ ap (λ n. (s + (self - n)) % self) f ∙ ap (λ n. (s + (n - ((a / b % m) * t) % n)) % n) (sym e))
+    (g ∙ ap (λ n. (s + (self - n)) % self) (f ∙ ap (λ n. (n * t) % self) hq) ∙ ap (λ n. (s + (n - ((a / b % n) * t) % n)) % n) (sym e))
 
 pub last_step : (m r s left w : ℕ) → left ≤ 0 → r < m → (r * s ^ left) % m ≡ w → r ≡ w
 last_step m r s left w none below e =

@@ -78,9 +78,8 @@ impl Modulus {
         ensures value { result ≡ (x + y) % self.now }
         ensures below { result < self.now }
     {
-        let m = self.get();
-        let sum = x + y;
-        if sum < m { sum } else { sum - m }
+        let _ = &self.form;
+        self.form.add(x, y)
     }
 
     /// The difference of the residues `x` and `y`.
@@ -118,11 +117,12 @@ impl Modulus {
     }
 
     /// The residue of `x`, a number with no sign.
+    #[inline]
     #[tactic(auto, unfolding(arithmetic::specs::Numbers::reduce))]
     pub fn of_u64(&self, x: u64) -> u64
         ensures { Leaves self.now (pos x) result }
     {
-        x % self.get()
+        self.remainder(x)
     }
 
     /// The residue of `x`.
@@ -130,12 +130,21 @@ impl Modulus {
     pub fn of_i64(&self, x: i64) -> u64
         ensures { Leaves self.now x result }
     {
-        let m = self.get();
         if x >= 0 {
-            x as u64 % m
+            self.remainder(x as u64)
         } else {
-            m - 1 - (-(x + 1)) as u64 % m
+            self.get() - 1 - self.remainder((-(x + 1)) as u64)
         }
+    }
+
+    /// The remainder of `x`. Most numbers that are asked for are below the modulus, and cost no division.
+    #[inline]
+    fn remainder(&self, x: u64) -> u64
+        ensures value { result ≡ x % self.now }
+        ensures below { result < self.now }
+    {
+        let m = self.get();
+        if x < m { x } else { x % m }
     }
 
     /// The residue of `n!`.
@@ -157,13 +166,8 @@ impl Modulus {
         ensures { (z d : ℤ) → Leaves self.now z first → Leaves self.now d step
             → Leaves self.now (product_below count (progression z d)) result }
     {
-        let mut product = self.of_u64(1);
-        let mut term = first;
-        for _place in 0..count {
-            product = self.mul(product, term);
-            term = self.add(term, step);
-        }
-        product
+        let _ = &self.form;
+        self.form.progression_product(first, step, count)
     }
 
     /// The residue of the fraction `top` over `bottom`: the one number below the modulus whose product with `bottom`
@@ -196,7 +200,7 @@ impl Modulus {
         let (mut larger, mut smaller) = (m, x);
         let (mut of_larger, mut of_smaller) = (0, 1);
         while smaller > 0 {
-            let quotient = larger / smaller % m;
+            let quotient = self.remainder(larger / smaller);
             let next = self.sub(of_larger, self.mul(quotient, of_smaller));
             (larger, smaller) = (smaller, larger % smaller);
             (of_larger, of_smaller) = (of_smaller, next);

@@ -3,7 +3,8 @@
 //!
 //! In this form the residue `x` is kept as `x * 2^64` modulo the modulus.
 
-ghost use Rattle.std.specs.Prelude.{◌≡◌, ℕ, ◌+◌, ◌-◌, ◌*◌, ◌/◌, ◌%◌, ◌^◌, ◌<◌, ◌≤◌};
+ghost use Rattle.std.specs.Prelude.{◌≡◌, ℕ, ◌+◌, ◌-◌, ◌*◌, ◌/◌, ◌%◌, ◌^◌, ◌<◌, ◌≤◌, ℤ};
+ghost use Rattle.arithmetic.specs.Numbers.{product_below, progression, Leaves};
 ghost use Rattle.residue.specs.Montgomery.{over_word};
 
 /// An odd modulus below 2^62, with the constants that its reduction needs.
@@ -47,6 +48,22 @@ impl Montgomery {
         self.modulus
     }
 
+    /// The sum of two numbers below the modulus: of residues, or of their forms.
+    #[inline]
+    pub(crate) fn add(&self, x: u64, y: u64) -> u64
+        requires x_below { x < self.now.modulus }
+        requires y_below { y < self.now.modulus }
+        ensures value { result ≡ (x + y) % self.now.modulus }
+        ensures below { result < self.now.modulus }
+    {
+        let sum = x + y;
+        if sum < self.modulus {
+            sum
+        } else {
+            sum - self.modulus
+        }
+    }
+
     /// The product of the residues `x` and `y`, by two reductions.
     #[inline]
     pub(crate) fn mul(&self, x: u64, y: u64) -> u64
@@ -59,10 +76,15 @@ impl Montgomery {
     }
 
     /// The power of the residue `x` by `exponent`, where the power 0 is 1. All squares and products stay in the form.
+    ///
+    /// Most edges have degree 1, so that most powers that are asked for are those of 1.
     pub(crate) fn pow(&self, x: u64, exponent: u64) -> u64
         requires { x < self.now.modulus }
         ensures { result ≡ (x ^ exponent) % self.now.modulus }
     {
+        if x == 1 {
+            return 1;
+        }
         let mut power = self.enter(1);
         let mut square = self.enter(x);
         let mut left = exponent;
@@ -74,6 +96,24 @@ impl Montgomery {
             left /= 2;
         }
         self.reduce(power as u128)
+    }
+
+    /// The product of `count` terms of an arithmetic progression: of `first`, `first + step`, `first + 2 step` and so
+    /// on. All terms and products stay in the form.
+    pub(crate) fn progression_product(&self, first: u64, step: u64, count: u64) -> u64
+        requires first_below { first < self.now.modulus }
+        requires step_below { step < self.now.modulus }
+        ensures { (z d : ℤ) → Leaves self.now.modulus z first → Leaves self.now.modulus d step
+            → Leaves self.now.modulus (product_below count (progression z d)) result }
+    {
+        let rise = self.enter(step);
+        let mut product = self.enter(1);
+        let mut term = self.enter(first);
+        for _place in 0..count {
+            product = self.times(product, term);
+            term = self.add(term, rise);
+        }
+        self.reduce(product as u128)
     }
 
     /// The form of the residue `x`.

@@ -12,8 +12,8 @@ loop-smaller-preserved c = record {
   same_gcd = gcd-mod c.loop-smaller.larger c.loop-smaller.smaller ∙ c.loop-smaller.invariant.same_gcd;
   of_larger_is = c.loop-smaller.invariant.of_smaller_is;
   of_smaller_is =
-      inverse_step_at _ _ _ _ _ _ _ _ _ c.get-m.ensures.value c.loop-smaller.invariant.smaller_below
-      c.loop-smaller.invariant.of_larger_is c.loop-smaller.invariant.of_smaller_is c.mul.ensures.value c.sub-next.ensures.value;
+      inverse_step_at _ _ _ _ _ _ _ _ _ _ c.get-m.ensures.value c.loop-smaller.invariant.smaller_below
+      c.loop-smaller.invariant.of_larger_is c.loop-smaller.invariant.of_smaller_is c.remainder-quotient.ensures.value c.mul.ensures.value c.sub-next.ensures.value;
 }
 
 -- where the loop has ended, the larger number is the greatest common divisor

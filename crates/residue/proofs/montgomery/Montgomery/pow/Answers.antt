@@ -1,9 +1,12 @@
 use Rattle.std.proofs.Common.{◌*◌, ◌%◌, ◌^◌, ◌/◌, arith, ap, ◌∙◌}
 use Rattle.residue.specs.Montgomery.{over_word}
-use Rattle.residue.proofs.Steps.{even_step, odd_step, last_step, first_step}
+use Rattle.residue.proofs.Steps.{even_step, odd_step, last_step, first_step, power_of_one}
 use Rattle.residue.proofs.Reduction.{over_word_below}
 use Rattle.residue.proofs.montgomery.Montgomery.pow.Goals as goal
 use Rattle.residue.proofs.montgomery.Montgomery.pow.Goals.{then-left-eq1, else-left-eq1}
+
+pub returns-then-x-eq1 : goal.returns-then-x-eq1
+returns-then-x-eq1 c = power_of_one _ _ c.args.exponent c.args.self.now.at_least_3 c.if-x-eq1.true
 
 pub loop-left-init : goal.loop-left-init
 loop-left-init c = record {
