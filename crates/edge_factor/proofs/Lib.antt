@@ -1,1 +1,2 @@
 pub mod ColourTerms
+pub mod Signs

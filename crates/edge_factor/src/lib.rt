@@ -7,8 +7,8 @@
 //! (Localization of virtual classes, 1999); the factor `1/a` for the automorphisms of the edge is inside.
 #![tactic(auto)]
 
-ghost use Rattle.std.specs.Prelude.{◌≡◌, ◌≢◌, ◌+◌, ◌*◌, ◌<◌, ◌≤◌, length};
-ghost use Rattle.arithmetic.specs.Numbers.{Leaves};
+ghost use Rattle.std.specs.Prelude.{◌≡◌, ◌≢◌, ◌+◌, ◌*◌, ◌<◌, ◌≤◌, length, negsuc};
+ghost use Rattle.arithmetic.specs.Numbers.{Leaves, power};
 ghost use Rattle.residue.specs.Answers.{GivesResidue};
 ghost use Rattle.residue.specs.Ratios.{IsRatioOf};
 ghost use Rattle.localisation.specs.EdgeFraction.{edge_fraction, edge_top, edge_bottom, colour_product, colour_factor, other_colours_product};
@@ -52,9 +52,20 @@ fn top(setup: &Setup, a: u8, modulus: &Modulus) -> u64
     let degree = a as u64;
     let rank = setup.rank() as u64;
     let of_degree = modulus.of_u64(degree);
-    let sign = modulus.pow(modulus.of_i64(-1), degree);
-    let signed = modulus.mul(sign, modulus.pow(of_degree, 2 * degree));
+    let signed = modulus.mul(sign(degree, modulus), modulus.pow(of_degree, 2 * degree));
     modulus.mul(signed, modulus.pow(of_degree, (rank - 1) * (degree + 1)))
+}
+
+/// The residue of `(-1)^a`.
+#[tactic(auto, using(crate::proofs::Signs::even_sign, crate::proofs::Signs::odd_sign))]
+fn sign(a: u64, modulus: &Modulus) -> u64
+    ensures { Leaves modulus.now (power (negsuc 0) a) result }
+{
+    if a % 2 == 0 {
+        modulus.of_u64(1)
+    } else {
+        modulus.of_i64(-1)
+    }
 }
 
 /// The residue of the bottom.

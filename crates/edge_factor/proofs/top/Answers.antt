@@ -8,7 +8,7 @@ unfolding edge_top
 returns c =
     let rank : c.rank-rank.result ≡ length c.args.setup.now - 1 = omega arith in
     Leaves-mul
-    (Leaves-mul (Leaves-pow c.args.a c.of_i64.ensures c.pow-sign.ensures.value)
+    (Leaves-mul c.sign.ensures
     (Leaves-pow _ c.of_u64-of_degree.ensures c.pow.ensures.value) c.mul-signed.ensures.value)
     (Leaves-pow _ c.of_u64-of_degree.ensures
     (c.pow-2.ensures.value ∙ ap (λ r. (c.of_u64-of_degree.result ^ ((r - 1) * (c.args.a + 1))) % c.args.modulus.now) rank))
