@@ -123,3 +123,19 @@ gcd_zero_left a b e = rw e (gcd-zero a)
 
 -- Euclid's algorithm, for `grind`
 pub ruleset euclid = (gcd-mod, gcd_zero_left)
+
+-- a unit is cancelled from both sides
+pub cancel_unit : (m p s t : ℕ) → 0 < m → gcd p m ≡ 1 → Same m (p * s) (p * t) → Same m s t
+cancel_unit m p s t h e k =
+    let u = IsUnit-from_gcd m p h e in
+    same_trans (same_sym (by_inverse u.inverse u.is s)) (same_trans (same_mul (same_refl m u.inverse) k) (by_inverse u.inverse u.is t))
+  where
+    by_inverse : (i : ℕ) → (p * i) % m ≡ 1 % m → (s : ℕ) → Same m (i * (p * s)) s
+    by_inverse i f s =
+        same_trans (same_of_eq m _ _ (turned i p s)) (same_trans (same_mul (record { is = f }) (same_refl m s)) (same_of_eq m _ _ (once s)))
+      where
+        turned : (i p s : ℕ) → i * (p * s) ≡ p * i * s
+        turned i p s = omega arith
+
+        once : (s : ℕ) → 1 * s ≡ s
+        once s = omega arith

@@ -2,8 +2,8 @@
 use Rattle.std.proofs.Common.{◌≡◌, ℕ, zero, suc, ◌+◌, ◌-◌, ◌*◌, ◌/◌, ◌%◌, ◌<◌, ℤ, pos, negsuc, refl, sym, ap, ◌∙◌, arith, List, [], ◌∷◌, length, slice_index}
 use Rattle.std.proofs.Math.Nat.{div-add-mod, mod-lt, mul-pos}
 use Rattle.arithmetic.specs.Numbers.{gcd, reduce}
-use Rattle.arithmetic.proofs.Congruences.{Same, same_refl, same_of_eq, same_sym, same_trans, same_mul, same_multiple, same_cancel}
-use Rattle.arithmetic.proofs.Divisors.{IsUnit-from_gcd, gcd-from_IsUnit, gcd_comm, gcd-mod, gcd-zero}
+use Rattle.arithmetic.proofs.Congruences.{Same, same_of_eq, same_sym, same_trans, same_multiple, same_cancel}
+use Rattle.arithmetic.proofs.Divisors.{IsUnit-from_gcd, gcd-from_IsUnit, gcd_comm, gcd-mod, gcd-zero, cancel_unit}
 use Rattle.arithmetic.proofs.NumberLaws.{reduce-pos, reduce-negsuc}
 use Rattle.arithmetic.proofs.Residues.{IsUnit-mul, unit_one}
 use Rattle.trees.specs.Numbering.{product_of}
@@ -25,22 +25,6 @@ coprime_product a b (suc (suc m)) e f =
     sym (gcd-mod_left (a * b) (suc (suc m)))
     ∙ gcd-from_IsUnit (suc (suc m)) ((a * b) % suc (suc m)) (omega arith)
     (IsUnit-mul (suc (suc m)) a b (IsUnit-from_gcd (suc (suc m)) a some e) (IsUnit-from_gcd (suc (suc m)) b some f))
-
--- a unit is cancelled from both sides
-pub cancel_unit : (m p s t : ℕ) → 0 < m → gcd p m ≡ 1 → Same m (p * s) (p * t) → Same m s t
-cancel_unit m p s t h e k =
-    let u = IsUnit-from_gcd m p h e in
-    same_trans (same_sym (by_inverse u.inverse u.is s)) (same_trans (same_mul (same_refl m u.inverse) k) (by_inverse u.inverse u.is t))
-  where
-    by_inverse : (i : ℕ) → (p * i) % m ≡ 1 % m → (s : ℕ) → Same m (i * (p * s)) s
-    by_inverse i f s =
-        same_trans (same_of_eq m _ _ (turned i p s)) (same_trans (same_mul (record { is = f }) (same_refl m s)) (same_of_eq m _ _ (once s)))
-      where
-        turned : (i p s : ℕ) → i * (p * s) ≡ p * i * s
-        turned i p s = omega arith
-
-        once : (s : ℕ) → 1 * s ≡ s
-        once s = omega arith
 
 -- numbers that leave the same modulo each of two coprime numbers do so modulo their product
 pub same_product : (p m u v : ℕ) → 0 < m → gcd p m ≡ 1 → Same p u v → Same m u v → Same (p * m) u v
