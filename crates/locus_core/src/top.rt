@@ -117,10 +117,7 @@ fn run(alloc: Global, text: &[u8]) -> Result<Report, ProblemError>
     ensures err { IfErr result (λ error. error ≢ ProblemError.NoMemory → reading text.now ≡ Err error) }
 {
     let problem = read(alloc, text)?;
-    match outcome_report(alloc, &problem) {
-        Ok(report) => Ok(report),
-        Err(NoMemory) => Err(ProblemError::NoMemory),
-    }
+    Ok(outcome_report(alloc, &problem)?)
 }
 
 #[tactic(auto, unfolding(crate::specs::Run::loaded))]

@@ -4,7 +4,7 @@ ghost use Rattle.std.specs.Prelude.{◌≡◌};
 
 use crate::name::Name;
 use crate::place::Place;
-use residue::{Bytes, ModulusError};
+use residue::{Bytes, ModulusError, NoMemory};
 use std::alloc::{AllocError, AllocFailed};
 
 /// Why a text is no problem: the first rule that it breaks.
@@ -119,6 +119,16 @@ impl<T: Drop> From<AllocFailed<T>> for ProblemError {
     ghost from_gives = { λ _ e. e ≡ NoMemory };
 
     fn from(_failed: AllocFailed<T>) -> Self {
+        ProblemError::NoMemory
+    }
+}
+
+impl From<NoMemory> for ProblemError {
+    ghost use Rattle.problem_toml.specs.declared.error.ProblemError.TheVariants.{NoMemory};
+
+    ghost from_gives = { λ _ e. e ≡ NoMemory };
+
+    fn from(_error: NoMemory) -> Self {
         ProblemError::NoMemory
     }
 }
