@@ -1,4 +1,5 @@
 pub mod ProblemTrees
 pub mod Places
 pub mod RangeLaws
+pub mod BlockLaws
 pub mod ConicRules

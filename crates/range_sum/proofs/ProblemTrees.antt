@@ -1,12 +1,11 @@
 -- What the rules of a problem give for its trees and terms.
-use Rattle.std.proofs.Common.{◌≡◌, ℕ, ◌+◌, ◌*◌, ◌<◌, ◌≤◌, ◌==◌, ◌&&◌, if◌then◌else◌, Bool, true, false, List, [], ◌∷◌, map, sum, sum_by, All, IsTrue, Some, sym, ap, subst, ◌∙◌, arith, mul-le-mul}
+use Rattle.std.proofs.Common.{◌≡◌, ℕ, ◌+◌, ◌*◌, ◌≤◌, ◌==◌, if◌then◌else◌, Bool, true, false, List, [], ◌∷◌, length, map, sum, sum_by, All, IsTrue, Some, subst, arith, mul-le-mul}
 use Rattle.std.specs.List.{slice_get}
-use Rattle.std.proofs.lemmas.Bool.Decides.{nat_tests}
 use Rattle.std.proofs.lemmas.List.Elements.{All-weaker}
 use Rattle.std.proofs.lemmas.List.Sums.{sum-map, sum_by-cons}
 use Rattle.std.proofs.lemmas.Option.{get_or_from_slice_get, slice_get_within}
 use Rattle.trees.specs.Decorated.{TreeShape, is_decorated}
-use Rattle.trees.proofs.AllTrees.{both}
+use Rattle.trees.proofs.AllTrees.{parts}
 use Rattle.residue.specs.declared.class.Class.{Class}
 use Rattle.residue.specs.declared.class.Class.TheVariants.{Mark, Hypersurface, Incidence, R1, Contact, Psi}
 use Rattle.residue.specs.declared.class.Power.{Power}
@@ -16,10 +15,11 @@ use Rattle.residue.specs.Degrees.{class_degree}
 use Rattle.localisation.specs.ClassValue.{psi_power}
 use Rattle.decorated_tree.specs.declared.tree.Tree.{Tree}
 use Rattle.decorated_tree.specs.Shapes.{within_limits}
-use Rattle.decorated_tree.specs.Trees.{tree_view, is_padded, is_tree_of}
+use Rattle.decorated_tree.specs.Trees.{is_tree_of}
 use Rattle.decorated_tree.proofs.Counts.{limits}
-use Rattle.tree_parts.specs.Parts.{IsSomeTree}
-use Rattle.tree_parts.proofs.DecoratedParts.{within_rank}
+use Rattle.tree_parts.specs.declared.parts.TreeParts.{TreeParts}
+use Rattle.tree_parts.specs.Parts.{tree_of_parts, AreParts}
+use Rattle.tree_parts.proofs.DecoratedParts.{some_limits, decorated_parts}
 use Rattle.contribution.specs.Terms.{IsTermFor}
 use Rattle.problem.specs.Rules.{IsPower, IsTermOf, IsIntegralOf, powers_degree, dimension_of}
 
@@ -74,26 +74,12 @@ terms_for s integrals i terms h all e =
     let there = subst (IsIntegralOf s) (get_or_from_slice_get integrals i terms [] e) (all i [] (slice_get_within integrals i terms e)) in
     All-weaker (IsTermOf s) (IsTermFor s.marks) (term_for s h) terms there.each
 
--- ---- the trees of a problem
-pub tree_marks : (s : TreeShape) (t : Tree) → IsTrue (is_tree_of s t) → t.m ≡ s.marks
-tree_marks s t h = by_test t.m s.marks (both (t.m == s.marks) _ (both _ (is_decorated s (tree_view t)) h).0).0
-  where
-    by_test : (a b : ℕ) → (a == b) ≡ true → a ≡ b
-    by_test a b h = grind (arith, nat_tests)
+-- ---- the trees of a problem, and their parts
+pub tree_limits : (s : TreeShape) (t : Tree) → within_limits s ≡ true → IsTrue (is_tree_of s t) → (1 ≤ t.n) × (t.n ≤ 11) × (t.m ≤ 12)
+tree_limits s t h tree = let l = limits s.rank s.degree s.marks h in some_limits t (s, l.most_degree, l.most_marks, tree)
 
-pub some_tree_of : (s : TreeShape) (t : Tree) → within_limits s ≡ true → IsTrue (is_tree_of s t) → IsSomeTree t
-some_tree_of s t h tree = let l = limits s.rank s.degree s.marks h in (s, l.most_degree, l.most_marks, tree)
+pub parts_of_tree : (s : TreeShape) (p : TreeParts) → within_limits s ≡ true → IsTrue (is_decorated s (tree_of_parts p)) → AreParts p
+parts_of_tree s p h tree = decorated_parts s p (limits s.rank s.degree s.marks h).most_degree tree
 
-pub colours_of : (s : TreeShape) (t : Tree) (count : ℕ) → count ≡ s.rank + 1 → IsTrue (is_tree_of s t) → All (λ c. c < count) (tree_view t).colours
-colours_of s t count e h = within_rank s t count (sym e) (both _ (is_decorated s (tree_view t)) h).1
-
--- what the calls of a shape tell of a tree
-pub is_tree_from : (s : TreeShape) (t : Tree) → t.m ≡ s.marks → IsTrue (is_padded t) → IsTrue (is_decorated s (tree_view t)) → IsTrue (is_tree_of s t)
-is_tree_from s t marks padded decorated =
-    joined _ _ (joined (t.m == s.marks) (is_padded t) (same_test t.m s.marks marks) padded) decorated
-  where
-    joined : (a b : Bool) → a ≡ true → b ≡ true → (a && b) ≡ true
-    joined a b h k = ap (λ x. x && b) h ∙ k
-
-    same_test : (a b : ℕ) → a ≡ b → (a == b) ≡ true
-    same_test a b h = grind (h, arith, nat_tests)
+pub marks_of_parts : (s : TreeShape) (p : TreeParts) → IsTrue (is_decorated s (tree_of_parts p)) → length p.marks.now ≡ s.marks
+marks_of_parts s p tree = (parts s (tree_of_parts p) tree).marks

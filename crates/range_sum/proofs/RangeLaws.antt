@@ -1,26 +1,23 @@
--- The sums of a range, number by number.
-use Rattle.std.proofs.Common.{◌≡◌, ◌≢◌, ℕ, zero, suc, ◌+◌, ◌%◌, ◌<◌, ◌≤◌, ◌↔◌, Bool, true, false, List, length, slice_index, replicate, refl, sym, ap, ◌∙◌, subst, arith, pos, mod-lt, ⊎_elim, IsTrue}
-use Rattle.std.proofs.lemmas.Bool.{cases_eq}
+-- The trees and the bad numbers of a range, and its sums over no number and over all.
+use Rattle.std.proofs.Common.{◌≡◌, ℕ, zero, suc, ◌%◌, ◌<◌, Bool, List, length, slice_index, replicate, refl, sym, ap, ◌∙◌, subst, arith, pos, mod-lt, ⊎_elim, IsTrue}
+use Rattle.std.proofs.lemmas.Bool.{cases_lt}
 use Rattle.std.proofs.Math.Nat.{mod-eq_of_lt, one-dvd, dvd_refl}
 use Rattle.arithmetic.specs.Numbers.{gcd}
-use Rattle.arithmetic.specs.Fractions.{fraction, plus, IsResidue}
+use Rattle.arithmetic.specs.Fractions.{fraction, IsResidue}
 use Rattle.arithmetic.proofs.Divisors.{gcd_from_IsGcd}
 use Rattle.arithmetic.proofs.NumberLaws.{reduce-pos}
-use Rattle.arithmetic.proofs.Residues.{IsResidue-from, IsResidue-plus}
-use Rattle.trees.specs.Decorated.{TreeShape, DecoratedTree, is_decorated}
+use Rattle.arithmetic.proofs.Residues.{IsResidue-from}
+use Rattle.trees.specs.Decorated.{TreeShape, is_decorated}
 use Rattle.trees.specs.Numbers.{tree_of}
 use Rattle.decorated_tree.specs.declared.tree.Tree.{Tree}
 use Rattle.decorated_tree.specs.Trees.{tree_view, is_padded}
-use Rattle.localisation.specs.Contribution.{contribution, partial_sum}
 use Rattle.localisation.specs.Agreement.{modulus_at, integral_at, NoneBad}
 use Rattle.localisation.proofs.AllNumbers.{residues_of_all}
-use Rattle.localisation.proofs.Sums.{partial_sum-none, partial_sum-next}
+use Rattle.localisation.proofs.Sums.{partial_sum-none}
 use Rattle.problem.specs.declared.problem.Problem.{Problem}
 use Rattle.problem.specs.Problems.{view}
-use Rattle.problem.specs.Sums.{count_of, is_bad_of, places_of, ArePartialSums, AreKontsevichSums}
+use Rattle.problem.specs.Sums.{count_of, ArePartialSums, AreKontsevichSums}
 use Rattle.decorated_tree.proofs.Counts.{limits}
-use Rattle.range_sum.specs.Totals.{is_bad_tree, AddsResidue}
-use Rattle.range_sum.proofs.Places.{is_bad_at}
 
 -- a decorated tree of the shape, and that of the number k where k is below the end
 pub record IsTreeUpTo (s : TreeShape) (end k : ℕ) (t : Tree) : Type 0 where
@@ -30,7 +27,7 @@ pub record IsTreeUpTo (s : TreeShape) (end k : ℕ) (t : Tree) : Type 0 where
   pub padded : IsTrue (is_padded t)
 
 -- each modulus of a problem is above 1
-modulus_above : (p : Problem) (place : ℕ) → 1 < modulus_at p.moduli place
+pub modulus_above : (p : Problem) (place : ℕ) → 1 < modulus_at p.moduli place
 modulus_above p place =
     let some = p.rules.moduli.least in
     let h = p.rules.moduli.each (place % length p.moduli) 0 (mod-lt place some) in
@@ -60,51 +57,12 @@ no_numbers p first sums e = record {
       (subst (λ x. IsResidue m (fraction (pos 0) (pos 1)) x) (sym (ap (λ xs. slice_index xs place) e ∙ zeros 64 place)) r);
 }
 
-pub one_more : (p : Problem) (first k : ℕ) (g : DecoratedTree) (old new : List ℕ) → first ≤ k → g ≡ tree_of p.shape k → ArePartialSums (view p) first k old
-    → ((place : ℕ) → place < places_of (view p) → AddsResidue (modulus_at p.moduli place)
-    (contribution p.setup (integral_at p.moduli p.integrals place) g) (slice_index old place) (slice_index new place))
-    → ArePartialSums (view p) first (k + 1) new
-one_more p first k g old new from e sums added = record {
-  each = λ place h.
-      let m = modulus_at p.moduli place in
-      let terms = integral_at p.moduli p.integrals place in
-      let a = added place h in
-      subst (λ f. IsResidue m f (slice_index new place)) (sym (partial_sum-next p.setup p.shape first k terms from ∙ ap (λ t. plus (partial_sum p.setup p.shape first k terms) (contribution p.setup terms t)) (sym e)))
-      (subst (λ x. IsResidue m (plus (partial_sum p.setup p.shape first k terms) (contribution p.setup terms g)) x) (sym a.sum)
-      (IsResidue-plus m (partial_sum p.setup p.shape first k terms) (contribution p.setup terms g)
-      (slice_index old place) a.value (modulus_above p place) (sums.each place h) a.is_residue));
-}
-
--- what is told of a tree holds of its number
-pub bad_by_answer : (p : Problem) (k : ℕ) (g : DecoratedTree) (good : Bool) → g ≡ tree_of p.shape k → ((IsTrue good) ↔ (is_bad_tree (view p) g ≢ true))
-    → good ≡ false → is_bad_of (view p) k ≡ true
-bad_by_answer p k g good e h not_good =
-    sym (is_bad_at p.setup p.integrals p.moduli p.shape k g e) ∙ cases (is_bad_tree (view p) g) refl
-  where
-    clash : {b : Bool} → b ≡ false → b ≡ true → ⊥
-    clash p q = cc
-
-    apart : false ≡ true → ⊥
-    apart q = cc
-
-    cases : (b : Bool) → is_bad_tree (view p) g ≡ b → is_bad_tree (view p) g ≡ true
-    cases true t = t
-    cases false t = absurd (clash not_good (h.1 (λ bad. apart (sym t ∙ bad))))
-
-pub good_by_answer : (p : Problem) (k : ℕ) (g : DecoratedTree) (good : Bool) → g ≡ tree_of p.shape k → ((IsTrue good) ↔ (is_bad_tree (view p) g ≢ true))
-    → good ≡ true → is_bad_of (view p) k ≢ true
-good_by_answer p k g good e h is_good bad = h.0 is_good (is_bad_at p.setup p.integrals p.moduli p.shape k g e ∙ bad)
-
-pub none_more : (bad : ℕ → Bool) (first k : ℕ) → NoneBad bad first k → bad k ≢ true → NoneBad bad first (k + 1)
-none_more bad first k none good j from below e =
-    ⊎_elim (λ same. good (subst (λ i. bad i ≡ true) same e)) (λ other. none j from (omega arith) e) (cases_eq j k)
+pub none_append : (bad : ℕ → Bool) (first start stop : ℕ) → NoneBad bad first start → NoneBad bad start stop → NoneBad bad first stop
+none_append bad first start stop before after j from below e =
+    ⊎_elim (λ earlier. before j from earlier e) (λ later. after j later below e) (cases_lt j start)
 
 pub sums_to : (p : Problem) (first k end : ℕ) (sums : List ℕ) → k ≡ end → ArePartialSums (view p) first k sums → ArePartialSums (view p) first end sums
 sums_to p first k end sums e h = subst (λ n. ArePartialSums (view p) first n sums) e h
-
-pub each_below : (p : Problem) (first end : ℕ) (sums : List ℕ) → ArePartialSums (view p) first end sums
-    → (place : ℕ) → place < places_of (view p) → slice_index sums place < modulus_at p.moduli place
-each_below p first end sums h place within = (h.each place within).below
 
 -- over all numbers the sums are Kontsevich's
 pub all_numbers : (p : Problem) (first end : ℕ) (sums : List ℕ) → first ≡ 0 → end ≡ count_of (view p)

@@ -1,14 +1,18 @@
-//! The contribution of one tree of a problem.
+//! The contribution of one tree of a problem, as a residue and as a ratio.
 
 ghost use Rattle.std.specs.Prelude.{◌<◌, [], IsTrue, get_or, length, slice_index};
+ghost use Rattle.trees.specs.Decorated.{is_decorated};
 ghost use Rattle.decorated_tree.specs.Trees.{tree_view, is_tree_of};
 ghost use Rattle.localisation.specs.Contribution.{contribution};
 ghost use Rattle.residue.specs.Answers.{GivesResidue};
+ghost use Rattle.residue.specs.Ratios.{IsRatioOf};
+ghost use Rattle.tree_parts.specs.Parts.{tree_of_parts};
 
-use contribution::tree_contribution;
+use contribution::contribution_ratio;
 use decorated_tree::Tree;
 use problem::Problem;
-use residue::NoUnit;
+use residue::{NoUnit, Ratio};
+use tree_parts::TreeParts;
 
 /// The residue of the contribution of a tree of the problem's shape to the integral at the place `integral`, modulo the
 /// modulus at the place `modulus`, both counted from 0. It takes no memory.
@@ -30,7 +34,21 @@ pub fn contribution(
     ensures { GivesResidue (slice_index problem.now.moduli modulus)
         (contribution problem.now.setup (get_or problem.now.integrals integral []) (tree_view tree.now)) result }
 {
+    let parts = TreeParts::of(tree);
+    let ratio = tree_ratio(problem, integral, &parts, modulus);
+    ratio.residue(problem.moduli.get(modulus as usize))
+}
+
+/// The residues of the top and the bottom of the contribution of a tree of the problem's shape, which is given by its
+/// parts, without a division.
+pub(crate) fn tree_ratio(problem: &Problem, integral: u8, parts: &TreeParts, modulus: u8) -> Ratio
+    requires tree { IsTrue (is_decorated problem.now.shape (tree_of_parts parts.now)) }
+    requires integral_within { integral < length problem.now.integrals }
+    requires modulus_within { modulus < length problem.now.moduli }
+    ensures { IsRatioOf (slice_index problem.now.moduli modulus)
+        (contribution problem.now.setup (get_or problem.now.integrals integral []) (tree_of_parts parts.now)) result }
+{
     let terms = problem.integrals.get(integral as usize);
     let modulus = problem.moduli.get(modulus as usize);
-    tree_contribution(&problem.setup, terms, tree, modulus)
+    contribution_ratio(&problem.setup, terms.as_slice(), parts, modulus)
 }

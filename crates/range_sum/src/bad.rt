@@ -1,8 +1,8 @@
-//! The modulus for which the tree of a number is bad.
+//! The numbers whose trees are bad, and the moduli for which they are.
 
-ghost use Rattle.std.specs.Prelude.{◌≡◌, ◌≢◌, ◌<◌, ◌↔◌, true, IfSome, IsNone, IsTrue, length, slice_index};
+ghost use Rattle.std.specs.Prelude.{◌≡◌, ◌≢◌, ◌<◌, ◌≤◌, ◌↔◌, true, IfSome, IsNone, IsTrue, length, slice_index};
 ghost use Rattle.decorated_tree.specs.Trees.{tree_view, is_tree_of};
-ghost use Rattle.localisation.specs.Agreement.{is_bad_for, IsFirstBad};
+ghost use Rattle.localisation.specs.Agreement.{is_bad_for, IsFirstBad, IsLeastBad, NoneBad};
 ghost use Rattle.problem.specs.Problems.{view as problem_view};
 ghost use Rattle.problem.specs.Sums.{count_of, is_bad_modulo, is_bad_of};
 
@@ -22,6 +22,20 @@ pub fn first_bad_modulus(problem: &Problem, k: u64) -> Option<usize>
     for place in 0..problem.moduli.len() {
         if is_bad_at(problem, &tree, place as u8) {
             return Some(place);
+        }
+    }
+    None
+}
+
+/// The least of the numbers from `start` to `stop - 1` whose tree is bad for some modulus. `None` exactly where none is.
+pub(crate) fn least_bad(problem: &Problem, start: u64, stop: u64) -> Option<u64>
+    requires within { stop ≤ count_of (problem_view problem.now) }
+    ensures none { IsNone result → NoneBad (is_bad_of (problem_view problem.now)) start stop }
+    ensures least { IfSome result (IsLeastBad (is_bad_of (problem_view problem.now)) start stop) }
+{
+    for k in start..stop {
+        if first_bad_modulus(problem, k).is_some() {
+            return Some(k);
         }
     }
     None
