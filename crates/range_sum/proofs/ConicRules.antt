@@ -1,5 +1,5 @@
 -- The problem of conics that the tests make keeps the rules.
-use Rattle.std.proofs.Common.{◌≡◌, ℕ, zero, suc, ◌≤◌, ◌^◌, true, ℤ, pos, List, [], ◌∷◌, length, All, refl, arith}
+use Rattle.std.proofs.Common.{◌≡◌, ℕ, ◌≤◌, ◌^◌, true, ℤ, pos, List, [], ◌∷◌, length, All, refl, arith}
 use Rattle.std.proofs.lemmas.List.Elements.{All-nil, All-cons}
 use Rattle.trees.specs.Decorated.{TreeShape}
 use Rattle.trees.specs.Numbers.{tree_count}
@@ -9,43 +9,12 @@ use Rattle.residue.specs.Limits.{IsModulus, AreWeights}
 use Rattle.residue.specs.declared.class.Class.TheVariants.{Mark, Incidence, Psi}
 use Rattle.residue.specs.declared.class.Power.{Power}
 use Rattle.residue.specs.declared.class.Term.{Term}
-use Rattle.recover_fraction.specs.CommonResidues.{ArePairwiseCoprime}
-use Rattle.problem.specs.Rules.{IsPower, IsTermOf, IsIntegralOf, AreModuli, AreBounds, KeepsRules}
+use Rattle.problem.specs.Rules.{IsPower, IsTermOf, IsIntegralOf, KeepsRules}
 use Rattle.range_sum.specs.Conics.{five_points, conic_integrals}
-
-abbrev moduli : List ℕ
-moduli = 1000000007 ∷ 101 ∷ []
+use Rattle.range_sum.proofs.TestRules.{two_moduli, keeps_rules}
 
 abbrev plane : TreeShape
 plane = shape_of 2 2 1
-
-coprime : ArePairwiseCoprime moduli
-unfolding gcd
-coprime zero zero h k = absurd (omega arith)
-coprime zero (suc zero) h k = refl
-coprime zero (suc (suc j)) h k = absurd (omega arith)
-coprime (suc i) zero h k = absurd (omega arith)
-coprime (suc i) (suc zero) h k = absurd (omega arith)
-coprime (suc i) (suc (suc j)) h k = absurd (omega arith)
-
-are_moduli : AreModuli moduli
-are_moduli = record {
-  least = omega arith;
-  most = omega arith;
-  each = All-cons IsModulus 1000000007 (101 ∷ []) (record { odd = refl; at_least_3 = omega arith; limited = omega arith })
-      (All-cons IsModulus 101 [] (record { odd = refl; at_least_3 = omega arith; limited = omega arith }) (All-nil IsModulus));
-  coprime = coprime;
-  product = omega arith;
-}
-
-are_bounds : AreBounds moduli 100 100
-are_bounds = record {
-  least_top = omega arith;
-  most_top = omega arith;
-  least_bottom = omega arith;
-  most_bottom = omega arith;
-  below = omega arith;
-}
 
 points : IsPower 1 (record { class = Incidence 2; power = 5 })
 points = record { class = record { parameter = (omega arith, omega arith); mark = tt }; least = omega arith; most = omega arith }
@@ -91,22 +60,15 @@ integrals =
     All-cons (IsIntegralOf plane) (line_term ∷ []) ((psi_term ∷ line_term ∷ []) ∷ []) first
     (All-cons (IsIntegralOf plane) (psi_term ∷ line_term ∷ []) [] second (All-nil (IsIntegralOf plane)))
 
-literal : (ws : List ℤ) → within_limits plane ≡ true → tree_count plane ≤ 2 ^ 40 → length ws ≡ 3 → AreWeights ws
-    → KeepsRules (record { shape = plane; weights = ws; moduli = moduli; top_bound = 100; bottom_bound = 100; integrals = conic_integrals })
-literal ws within few three weights = record {
-  shape = within;
-  few_trees = few;
-  one_weight_each = three;
-  weights = weights;
-  moduli = are_moduli;
-  bounds = are_bounds;
-  some_integrals = omega arith;
-  few_integrals = omega arith;
-  few_terms = omega arith;
-  integrals = integrals;
-}
+hundred_and_one : IsModulus 101
+hundred_and_one = record { odd = refl; at_least_3 = omega arith; limited = omega arith }
+
+coprime : gcd 1000000007 101 ≡ 1
+unfolding gcd
+coprime = refl
 
 pub conics_rules : (s : TreeShape) (ws : List ℤ) (ms : List ℕ) (is : List (List Term)) → s ≡ plane → within_limits plane ≡ true → tree_count plane ≤ 2 ^ 40
-    → length ws ≡ 3 → AreWeights ws → ms ≡ moduli → is ≡ conic_integrals
+    → length ws ≡ 3 → AreWeights ws → ms ≡ two_moduli 101 → is ≡ conic_integrals
     → KeepsRules (record { shape = s; weights = ws; moduli = ms; top_bound = 100; bottom_bound = 100; integrals = is })
-conics_rules s ws ms is e within few three weights f g = rw (e, f, g) (literal ws within few three weights)
+conics_rules s ws ms is e within few three weights f g =
+    rw (e, f, g) (keeps_rules plane ws 101 conic_integrals within few three weights hundred_and_one coprime (omega arith) (omega arith) (omega arith) integrals)

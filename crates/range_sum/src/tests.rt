@@ -1,5 +1,6 @@
 ghost use Rattle.std.specs.Prelude.{◌≡◌, ◌∷◌, [], IfOk};
 ghost use Rattle.range_sum.specs.Conics.{conic_integrals, five_points};
+ghost use Rattle.range_sum.specs.Covers.{cover_integrals};
 
 use super::*;
 use decorated_tree::Shape;
@@ -21,17 +22,17 @@ fn conics(alloc: Global, weights: &[i64]) -> Result<Problem, Fail> {
     Ok(Problem {
         shape,
         setup,
-        moduli: two_moduli(alloc)?,
+        moduli: two_moduli(alloc, 101)?,
         top_bound: 100,
         bottom_bound: 100,
         integrals: two_integrals(alloc)?,
     })
 }
 
-fn two_moduli(alloc: Global) -> Result<Moduli, Fail>
-    ensures { IfOk result (λ moduli. moduli ≡ 1000000007 ∷ 101 ∷ []) }
+fn two_moduli(alloc: Global, second: u64) -> Result<Moduli, Fail>
+    ensures { IfOk result (λ moduli. moduli ≡ 1000000007 ∷ second ∷ []) }
 {
-    let moduli = vec![in alloc; Modulus::new(1_000_000_007)?, Modulus::new(101)?]?;
+    let moduli = vec![in alloc; Modulus::new(1_000_000_007)?, Modulus::new(second)?]?;
     Ok(Moduli::of(moduli))
 }
 
@@ -65,6 +66,41 @@ fn term(alloc: Global, coefficient: i64, other: Power) -> Result<Term, Fail>
         coefficient,
         classes: Powers::of(powers),
     })
+}
+
+/// The covers of degree 4 of a line, modulo 1,000,000,007 and 5, by the square of the class of the first direct image of
+/// O(-1).
+fn covers(alloc: Global) -> Result<Problem, Fail> {
+    let Ok(shape) = Shape::new(1, 4, 0) else {
+        return Err("refused".into());
+    };
+    let setup = Setup::new(&[1, 3])?;
+    if setup.rank() != 1 {
+        return Err("not the line".into());
+    }
+    Ok(Problem {
+        shape,
+        setup,
+        moduli: two_moduli(alloc, 5)?,
+        top_bound: 100,
+        bottom_bound: 100,
+        integrals: cover_integrals(alloc)?,
+    })
+}
+
+fn cover_integrals(alloc: Global) -> Result<Integrals, Fail>
+    ensures { IfOk result (λ integrals. integrals ≡ cover_integrals) }
+{
+    let image = Power {
+        class: Class::R1 { k: 1 },
+        power: 2,
+    };
+    let term = Term {
+        coefficient: 1,
+        classes: Powers::of(vec![in alloc; image]?),
+    };
+    let integrals = vec![in alloc; Terms::of(vec![in alloc; term]?)]?;
+    Ok(Integrals::of(integrals))
 }
 
 #[test]
@@ -123,5 +159,36 @@ fn names_the_least_bad_number(rt: HostRuntime) -> Result<(), Fail> {
     assert_eq!(rt; first_bad_modulus(&problem, 0), None);
     assert_eq!(rt; first_bad_modulus(&problem, 2), Some(1));
     assert_eq!(rt; first_bad_modulus(&problem, 119), None);
+    Ok(())
+}
+
+#[test]
+fn goes_on_from_block_to_block(rt: HostRuntime) -> Result<(), Fail> {
+    // The trees of 2, 3 and 4 vertices have the numbers up to 115. Those of 5 vertices are bad for the modulus 5, which
+    // divides 5!.
+    let problem = covers(rt.alloc())?;
+    if problem.shape.count() < 366 {
+        return Err("too few trees".into());
+    }
+    for (first, end, sums) in [
+        (0, 64, [516_276_046, 0]),
+        (0, 65, [945_963_549, 3]),
+        (0, 116, [284_505_208, 4]),
+        (51, 115, [1_000_000_003, 1]),
+    ] {
+        let total = sum_range(&problem, first, end);
+        assert_eq!(rt; total.least, NONE_BAD, "from {first} to {end}");
+        assert_eq!(rt; &total.sums[..2], sums.as_slice(), "from {first} to {end}");
+    }
+    for (first, end, least) in [
+        (0, 366, 116),
+        (50, 117, 116),
+        (60, 366, 116),
+        (117, 366, 117),
+    ] {
+        let total = sum_range(&problem, first, end);
+        assert_eq!(rt; total.least, least, "from {first} to {end}");
+    }
+    assert_eq!(rt; first_bad_modulus(&problem, 116), Some(1));
     Ok(())
 }
