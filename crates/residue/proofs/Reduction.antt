@@ -105,29 +105,26 @@ entered m n x s f e square below h =
     (twice (2 ^ 64) m k x s (one (2 ^ 64) m n e) (square_of_word m s square))).is
     ∙ mod-eq_of_lt below
 
--- two reductions, the second after a product with the square of R, give the product
-pub product_value : (m n x y s p r : ℕ) → (m * n + 1) % 2 ^ 64 ≡ 0 → s ≡ 2 ^ 128 % m → p ≡ over_word m n (x * y)
-    → r ≡ over_word m n (p * s) → r ≡ (x * y) % m
+-- a reduced product with a form is the product
+pub times_value : (m n x f r : ℕ) → r ≡ over_word m n (x * f) → r ≡ (x * over_word m n f) % m
 unfolding over_word
-product_value m n x y s p r e square hp hr =
+times_value m n x f r h =
     let k = (m * n + 1) / 2 ^ 64 in
-    hr
-    ∙ (same_trans (same_mul (same_mul (same_trans (same_of_eq m p _ hp) (over m n (x * y))) (same_refl m s)) (same_refl m k))
-    (same_trans (same_of_eq m _ _ (turned (x * y) k s)) (twice (2 ^ 64) m k (x * y) s (one (2 ^ 64) m n e) (square_of_word m s square)))).is
+    h ∙ (same_trans (same_of_eq m _ _ (turned x f k)) (same_mul (same_refl m x) (same_sym (over m n f)))).is
   where
-    turned : (z k s : ℕ) → z * k * s * k ≡ z * s * k * k
-    turned z k s = omega arith
+    turned : (x f k : ℕ) → x * f * k ≡ x * (f * k)
+    turned x f k = omega arith
 
--- a reduced product of two forms is the form of the product
-pub times_value : (m n f g r : ℕ) → r ≡ over_word m n (f * g) → over_word m n r ≡ (over_word m n f * over_word m n g) % m
+-- a reduced square of a form is the form of the square
+pub square_value : (m n f r : ℕ) → r ≡ over_word m n (f * f) → over_word m n r ≡ (over_word m n f * over_word m n f) % m
 unfolding over_word
-times_value m n f g r h =
+square_value m n f r h =
     let k = (m * n + 1) / 2 ^ 64 in
-    (same_trans (same_mul (same_trans (same_of_eq m r _ h) (over m n (f * g))) (same_refl m k))
-    (same_trans (same_of_eq m _ _ (turned f g k)) (same_sym (same_mul (over m n f) (over m n g))))).is
+    (same_trans (same_mul (same_trans (same_of_eq m r _ h) (over m n (f * f))) (same_refl m k))
+    (same_trans (same_of_eq m _ _ (turned f k)) (same_sym (same_mul (over m n f) (over m n f))))).is
   where
-    turned : (f g k : ℕ) → f * g * k * k ≡ f * k * (g * k)
-    turned f g k = omega arith
+    turned : (f k : ℕ) → f * f * k * k ≡ f * k * (f * k)
+    turned f k = omega arith
 
 -- the sum of two forms is the form of the sum
 pub sum_value : (m n f g r : ℕ) → r ≡ (f + g) % m → over_word m n r ≡ (over_word m n f + over_word m n g) % m

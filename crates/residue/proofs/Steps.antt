@@ -50,6 +50,13 @@ last_step m r s left w none below e =
     let at : left ≡ 0 = omega arith in
     sym (mod-eq_of_lt below) ∙ ap (λ x. x % m) (sym (ap (λ k. r * s ^ k) at ∙ ap (λ n. r * n) (pow-zero s) ∙ mul-one r)) ∙ e
 
+-- one power is left
+pub last_odd_step : (m r s left w : ℕ) → left ≡ 1 → (r * s ^ left) % m ≡ w → (r * s) % m ≡ w
+last_odd_step m r s left w one e = ap (λ y. (r * y) % m) (sym (ap (λ k. s ^ k) one ∙ once s)) ∙ e
+  where
+    once : (s : ℕ) → s ^ 1 ≡ s
+    once s = pow-succ' s 0 ∙ ap (λ y. s * y) (pow-zero s) ∙ mul-one s
+
 -- top times the inverse of bottom, times bottom, is top
 pub quotient_is : (m top bottom inverse x : ℕ) → top < m → (bottom * inverse) % m ≡ 1 → x ≡ (top * inverse) % m → (x < m) × ((x * bottom) % m ≡ top)
 quotient_is m top bottom inverse x below e f = (

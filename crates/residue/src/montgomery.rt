@@ -71,11 +71,10 @@ impl Montgomery {
         requires y_below { y < self.now.modulus }
         ensures { result ≡ (x * y) % self.now.modulus }
     {
-        let product = self.reduce(x as u128 * y as u128);
-        self.reduce(product as u128 * self.square as u128)
+        self.times(x, self.enter(y))
     }
 
-    /// The power of the residue `x` by `exponent`, where the power 0 is 1. All squares and products stay in the form.
+    /// The power of the residue `x` by `exponent`, where the power 0 is 1. The squares stay in the form.
     ///
     /// Most edges have degree 1, so that most powers that are asked for are those of 1.
     pub(crate) fn pow(&self, x: u64, exponent: u64) -> u64
@@ -85,35 +84,42 @@ impl Montgomery {
         if x == 1 {
             return 1;
         }
-        let mut power = self.enter(1);
+        let mut power = 1;
         let mut square = self.enter(x);
         let mut left = exponent;
-        while left > 0 {
+        while left > 1 {
             if left % 2 == 1 {
                 power = self.times(power, square);
             }
-            square = self.times(square, square);
+            square = self.squared(square);
             left /= 2;
         }
-        self.reduce(power as u128)
+        if left == 1 {
+            self.times(power, square)
+        } else {
+            power
+        }
     }
 
     /// The product of `count` terms of an arithmetic progression: of `first`, `first + step`, `first + 2 step` and so
-    /// on. All terms and products stay in the form.
+    /// on. The terms stay in the form.
     pub(crate) fn progression_product(&self, first: u64, step: u64, count: u64) -> u64
         requires first_below { first < self.now.modulus }
         requires step_below { step < self.now.modulus }
         ensures { (z d : ℤ) → Leaves self.now.modulus z first → Leaves self.now.modulus d step
             → Leaves self.now.modulus (product_below count (progression z d)) result }
     {
-        let rise = self.enter(step);
-        let mut product = self.enter(1);
-        let mut term = self.enter(first);
-        for _place in 0..count {
-            product = self.times(product, term);
-            term = self.add(term, rise);
+        if count == 0 {
+            return 1;
         }
-        self.reduce(product as u128)
+        let rise = self.enter(step);
+        let mut product = first;
+        let mut term = self.enter(first);
+        for _place in 1..count {
+            term = self.add(term, rise);
+            product = self.times(product, term);
+        }
+        product
     }
 
     /// The form of the residue `x`.
@@ -126,17 +132,27 @@ impl Montgomery {
         self.reduce(x as u128 * self.square as u128)
     }
 
-    /// The form of the product of the residues that have the forms `f` and `g`.
+    /// The product of the residue `x` and the residue that has the form `f`, by one reduction.
     #[inline]
-    fn times(&self, f: u64, g: u64) -> u64
+    fn times(&self, x: u64, f: u64) -> u64
+        requires x_below { x < self.now.modulus }
         requires f_below { f < self.now.modulus }
-        requires g_below { g < self.now.modulus }
+        ensures below { result < self.now.modulus }
+        ensures value { result ≡ (x * over_word self.now.modulus self.now.negated_inverse f) % self.now.modulus }
+    {
+        self.reduce(x as u128 * f as u128)
+    }
+
+    /// The form of the square of the residue that has the form `f`.
+    #[inline]
+    fn squared(&self, f: u64) -> u64
+        requires { f < self.now.modulus }
         ensures below { result < self.now.modulus }
         ensures value { over_word self.now.modulus self.now.negated_inverse result
             ≡ (over_word self.now.modulus self.now.negated_inverse f
-            * over_word self.now.modulus self.now.negated_inverse g) % self.now.modulus }
+            * over_word self.now.modulus self.now.negated_inverse f) % self.now.modulus }
     {
-        self.reduce(f as u128 * g as u128)
+        self.reduce(f as u128 * f as u128)
     }
 
     /// `t` over 2^64 modulo the modulus: the least multiple of 2^64 among `t` and its sums with multiples of the

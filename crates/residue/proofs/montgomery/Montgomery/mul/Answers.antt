@@ -1,7 +1,5 @@
-use Rattle.residue.proofs.Reduction.{product_value}
+use Rattle.std.proofs.Common.{ap, ◌*◌, ◌%◌, ◌∙◌}
 use Rattle.residue.proofs.montgomery.Montgomery.mul.Goals as goal
 
 pub returns : goal.returns
-returns c =
-    let self = c.args.self.now in
-    product_value _ self.negated_inverse c.args.x c.args.y self.square _ _ self.inverse self.square_is c.reduce-product.ensures.value c.reduce.ensures.value
+returns c = c.times.ensures.value ∙ ap (λ y. (c.args.x * y) % c.args.self.now.modulus) c.enter.ensures.value
