@@ -8,4 +8,5 @@ pub mod Places
 pub mod Fitting
 pub mod Counting
 pub mod NextDegrees
+pub mod LastColour
 pub mod NextTree

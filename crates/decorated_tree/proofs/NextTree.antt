@@ -23,6 +23,7 @@ use Rattle.decorated_tree.specs.Following.{GoOn, DegreesGoOn, ColoursGoOn, IsTre
 use Rattle.decorated_tree.proofs.Places.{view_of, parts_at}
 use Rattle.decorated_tree.proofs.Counting.{digits_part, go_on_after, go_on_carry}
 use Rattle.decorated_tree.proofs.NextDegrees.{rank_goes_on}
+use Rattle.decorated_tree.proofs.LastColour.{AreTreeColours}
 
 -- ---- the digits of a decorated tree, part by part
 abbrev word_of : DecoratedTree → List ℕ
@@ -179,9 +180,7 @@ pub record IsReady (s : TreeShape) (t : Tree) (m : ℕ) : Type 0 where
   pub marks : AreDigits (replicate (length (take m t.marks)) t.n) (take m t.marks)
   pub degrees_long : length (take (t.n - 1) t.degrees) ≡ t.n - 1
   pub degrees : AreDegrees (length (take (t.n - 1) t.degrees)) s.degree (take (t.n - 1) t.degrees)
-  pub tree : is_tree t.n t.edges ≡ true
-  pub colours_long : length (take t.n t.colours) ≡ t.n
-  pub colours : AreDigits (colour_bases t.n s.rank) (digits_of (walk_in t.n t.edges (0 ∷ [])) (take t.n t.colours) (take t.n t.colours))
+  pub colours : AreTreeColours t.n s.rank t.edges (take t.n t.colours)
 
 pub is_ready : (s : TreeShape) (t : Tree) (m : ℕ) → s.degree < 11 → is_decorated s (tree_view t) ≡ true → t.m ≡ s.marks → m ≡ s.marks → IsReady s t m
 is_ready s t m small h e f =
@@ -196,10 +195,14 @@ is_ready s t m small h e f =
       marks = subst (λ z. AreDigits (replicate (length (take z t.marks)) t.n) (take z t.marks)) same (subst (λ z. AreDigits (replicate z t.n) (take t.m t.marks)) (sym own) k.marks);
       degrees_long = k.degrees.long;
       degrees = subst (λ z. AreDegrees z s.degree (take (t.n - 1) t.degrees)) (sym k.degrees.long) k.degrees;
-      tree = k.tree;
-      colours_long = d.colours;
-      colours = k.colours;
+      colours = record { least = k.least; tree = k.tree; long = d.colours; within = d.colours_within; differ = d.differ; digits = k.colours };
     }
+
+-- the colours, with the greatest colour and the edges as the code has them
+pub colours_ready : (s : TreeShape) (t : Tree) (r : ℕ) (edges : List (ℕ × ℕ)) (colours : List ℕ) → AreTreeColours t.n s.rank t.edges (take t.n t.colours)
+    → r ≡ s.rank → edges ≡ t.edges → colours ≡ take t.n t.colours → AreTreeColours t.n r edges colours
+colours_ready s t r edges colours h p q c =
+    subst (λ z. AreTreeColours t.n z edges colours) (sym p) (subst (λ z. AreTreeColours t.n s.rank z colours) (sym q) (subst (AreTreeColours t.n s.rank t.edges) (sym c) h))
 
 abbrev pub arranged : Tree → List ℕ → List ℕ → List ℕ → Tree
 arranged t cs ds ms = record { n = t.n; edges = t.edges; colours = cs; degrees = ds; m = t.m; marks = ms }

@@ -1,5 +1,5 @@
 -- Digits that go on to the next number, and the tree after a tree.
-use Rattle.std.specs.Prelude.{◌≡◌, ℕ, ◌+◌, ◌-◌, Bool, true, false, List, [], ◌∷◌, ◌++◌, length, replicate}
+use Rattle.std.specs.Prelude.{◌≡◌, ℕ, ◌+◌, ◌-◌, ◌==◌, ◌&&◌, Bool, true, false, List, [], ◌∷◌, ◌++◌, length, replicate, slice_index}
 use Rattle.trees.specs.Decorated.{TreeShape, is_decorated}
 use Rattle.trees.specs.Numbering.{AreDigits, AreDegrees, joined, product_of, choose, rank_of}
 use Rattle.trees.specs.Numbers.{number_of}
@@ -30,6 +30,10 @@ pub record ColoursGoOn (n r : ℕ) (edges : List (ℕ × ℕ)) (old new : List �
   pub digits : List ℕ
   pub next : GoOn (colour_bases n r) (digits_of (walk_in n edges (0 ∷ [])) old old) digits more
   pub colours : new ≡ coloured (walk_in n edges (0 ∷ [])) digits digits
+
+-- an edge joins the last vertex to one of this colour
+abbrev pub joins_colour : ℕ → ℕ → List ℕ → ℕ × ℕ → Bool
+joins_colour last colour colours e = (e.1 == last) && (slice_index colours e.0 == colour)
 
 -- a tree with the next number, and 0 in the places past the used ones
 pub record IsTreeAfter (s : TreeShape) (t u : Tree) : Type 0 where

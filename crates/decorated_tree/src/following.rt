@@ -1,17 +1,20 @@
 //! The tree after a tree, made in place.
 //!
 //! The digits of a number of a tree go on as those of a counter: the marks first, then the degrees, then the colours.
-//! Only where all of these go back to their first values does the next tree have other edges.
+//! Only where all of these go back to their first values does the next tree have other edges. Of the colours that of the
+//! last vertex comes first, and its neighbours tell in most cases that no other changes; else the tree is walked.
 
-ghost use Rattle.std.specs.Prelude.{◌≡◌, ℕ, ◌+◌, ◌-◌, ◌<◌, ◌≤◌, [], ◌∷◌, length, replicate, IsTrue};
-ghost use Rattle.std.specs.Bool.{OnTrue};
+ghost use Rattle.std.specs.Prelude.{◌≡◌, ℕ, ◌+◌, ◌-◌, ◌<◌, ◌≤◌, ◌==◌, nat_le, true, [], ◌∷◌, length, replicate, IsTrue};
+ghost use Rattle.std.specs.Bool.{OnTrue, OnFalse};
+ghost use Rattle.std.specs.List.{list_all, list_any, count_by};
 ghost use Rattle.trees.specs.Edges.{is_tree};
-ghost use Rattle.trees.specs.Decorated.{all_trees, is_decorated};
+ghost use Rattle.trees.specs.Decorated.{all_trees, is_decorated, ends_differ};
 ghost use Rattle.trees.specs.Members.{IsIn};
 ghost use Rattle.trees.specs.Numbering.{AreDigits, AreDegrees};
 ghost use Rattle.trees.specs.Numbers.{tree_count, tree_of, number_of};
 ghost use Rattle.trees.specs.Walks.{walk_in, digits_of};
-ghost use Rattle.decorated_tree.specs.Following.{GoOn, DegreesGoOn, ColoursGoOn, IsTreeAfter, colour_bases};
+ghost use Rattle.decorated_tree.specs.Following.{GoOn, DegreesGoOn, ColoursGoOn, IsTreeAfter, colour_bases, joins_colour};
+ghost use Rattle.decorated_tree.specs.Steps.{AreWithin};
 ghost use Rattle.decorated_tree.specs.Trees.{tree_view, is_padded};
 
 use crate::shape::Shape;
@@ -58,9 +61,14 @@ impl Shape {
         if next_degrees(&mut tree.degrees[..count], self.d()) {
             return true;
         }
+        let r = self.r();
         let edges = tree.edges;
+        let pairs = edges.as_slice();
         let colours = &mut tree.colours[..vertices];
-        next_colours(n, self.r(), edges.as_slice(), colours)
+        if raise_last_colour(n, r, pairs, colours) {
+            return true;
+        }
+        next_colours(n, r, pairs, colours)
     }
 }
 
@@ -105,6 +113,55 @@ fn next_degrees(degrees: &mut [u8], sum: u8) -> bool
     degrees[0] = 1;
     degrees[last] = first;
     false
+}
+
+/// Goes on to the next colours by that of the last vertex alone, and says whether that does it. Else all stay.
+///
+/// The last digit is that of the last vertex. The colour goes up by one where no neighbour has the new one: then the vertices
+/// that are reached through this one keep their digits with their colours. Where the only neighbour has it, nothing is
+/// reached through the last vertex, and its colour goes up by two.
+fn raise_last_colour(n: u8, r: u8, edges: &[(u8, u8)], colours: &mut [u8]) -> bool
+    requires least { 2 ≤ n }
+    requires rank { r ≤ 12 }
+    requires tree { IsTrue (is_tree n edges.now) }
+    requires long { length colours.old ≡ n }
+    requires within { IsTrue (list_all (λ c. nat_le c r) colours.old) }
+    requires differ { IsTrue (list_all (ends_differ colours.old) edges.now) }
+    requires digits { AreDigits (colour_bases n r) (digits_of (walk_in n edges.now (0 ∷ [])) colours.old colours.old) }
+    ensures raised { OnTrue result (ColoursGoOn n r edges.now colours.old colours.new true) }
+    ensures kept { OnFalse result (colours.new ≡ colours.old) }
+{
+    let last = n - 1;
+    let colour = colours[last as usize];
+    if colour < r && !has_neighbour_of(last, colour + 1, edges, colours) {
+        colours[last as usize] = colour + 1;
+        return true;
+    }
+    if colour + 1 < r && has_one_neighbour(last, edges) {
+        colours[last as usize] = colour + 2;
+        return true;
+    }
+    false
+}
+
+/// Whether the last vertex has a neighbour of this colour. Each of its edges has it second.
+fn has_neighbour_of(last: u8, colour: u8, edges: &[(u8, u8)], colours: &[u8]) -> bool
+    requires { AreWithin (length colours.now) edges.now }
+    ensures { result ≡ list_any (joins_colour last colour colours.now) edges.now }
+{
+    for edge in edges {
+        if edge.1 == last && colours[edge.0 as usize] == colour {
+            return true;
+        }
+    }
+    false
+}
+
+/// Whether the last vertex has one neighbour only. Each of its edges has it second.
+fn has_one_neighbour(last: u8, edges: &[(u8, u8)]) -> bool
+    ensures { result ≡ (count_by (λ e. e.1 == last) edges.now == 1) }
+{
+    edges.iter().filter(|edge| edge.1 == last).count() == 1
 }
 
 /// Goes on to the next colours of the vertices of a tree, and says whether there are any.

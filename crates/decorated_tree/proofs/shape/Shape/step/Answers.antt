@@ -1,17 +1,19 @@
-use Rattle.std.proofs.Common.{◌≡◌, ◌-◌, length, take, sym, subst, arith, [], ◌∷◌, true, false}
-use Rattle.trees.specs.Edges.{is_tree}
-use Rattle.trees.specs.Numbering.{AreDegrees, AreDigits}
-use Rattle.trees.specs.Walks.{walk_in, digits_of}
-use Rattle.decorated_tree.specs.Following.{DegreesGoOn, colour_bases}
+use Rattle.std.proofs.Common.{◌≡◌, ℕ, ◌-◌, true, false, length, take, refl, sym, ◌∙◌, subst, arith}
+use Rattle.trees.specs.Decorated.{TreeShape, is_decorated}
+use Rattle.trees.specs.Numbering.{AreDegrees}
+use Rattle.decorated_tree.specs.declared.tree.Tree.{Tree}
+use Rattle.decorated_tree.specs.Shapes.{within_limits}
+use Rattle.decorated_tree.specs.Trees.{tree_view}
+use Rattle.decorated_tree.specs.Following.{DegreesGoOn, ColoursGoOn}
 use Rattle.decorated_tree.proofs.Counts.{limits}
-use Rattle.decorated_tree.proofs.NextTree.{is_ready, tree_after_marks, tree_after_degrees, tree_after_more}
+use Rattle.decorated_tree.proofs.NextTree.{IsReady, is_ready, colours_ready, tree_after_marks, tree_after_degrees, tree_after_more}
 use Rattle.decorated_tree.proofs.shape.Shape.step.Goals as goal
 
+ready : (s : TreeShape) (t : Tree) (m : ℕ) → within_limits s ≡ true → is_decorated s (tree_view t) ≡ true → t.m ≡ s.marks → m ≡ s.marks → IsReady s t m
+ready s t m within = let l = limits s.rank s.degree s.marks within in let small = l.most_degree in is_ready s t m (omega arith)
+
 pub next_word-requires : goal.next_word-requires
-next_word-requires c =
-    let l = limits c.args.self.now.rank c.args.self.now.degree c.args.self.now.marks c.m-m.ensures.shape in
-    let small = l.most_degree in
-    (is_ready c.args.self.now c.args.tree.now c.m-m.result (omega arith) c.requires.decorated c.requires.marks c.m-m.ensures.value).marks
+next_word-requires c = (ready c.args.self.now c.args.tree.now c.m-m.result c.m-m.ensures.shape c.requires.decorated c.requires.marks c.m-m.ensures.value).marks
 
 pub returns-then-next_word : goal.returns-then-next_word
 returns-then-next_word c =
@@ -22,32 +24,24 @@ returns-then-next_word c =
 
 pub overflow_sub-count : goal.overflow_sub-count
 overflow_sub-count c =
-    let l = limits c.args.self.now.rank c.args.self.now.degree c.args.self.now.marks c.m-m.ensures.shape in
-    let small = l.most_degree in
-    let least = (is_ready c.args.self.now c.args.tree.now c.m-m.result (omega arith) c.requires.decorated c.requires.marks c.m-m.ensures.value).least in
+    let least = (ready c.args.self.now c.args.tree.now c.m-m.result c.m-m.ensures.shape c.requires.decorated c.requires.marks c.m-m.ensures.value).least in
     omega arith
 
 pub slice_bounds-next_degrees-end : goal.slice_bounds-next_degrees-end
 slice_bounds-next_degrees-end c =
-    let l = limits c.args.self.now.rank c.args.self.now.degree c.args.self.now.marks c.m-m.ensures.shape in
-    let small = l.most_degree in
-    let most = (is_ready c.args.self.now c.args.tree.now c.m-m.result (omega arith) c.requires.decorated c.requires.marks c.m-m.ensures.value).most in
+    let most = (ready c.args.self.now c.args.tree.now c.m-m.result c.m-m.ensures.shape c.requires.decorated c.requires.marks c.m-m.ensures.value).most in
     omega arith
 
 pub next_degrees-requires-clause-some : goal.next_degrees-requires-clause-some
 next_degrees-requires-clause-some c =
-    let l = limits c.args.self.now.rank c.args.self.now.degree c.args.self.now.marks c.m-m.ensures.shape in
-    let small = l.most_degree in
-    let r = is_ready c.args.self.now c.args.tree.now c.m-m.result (omega arith) c.requires.decorated c.requires.marks c.m-m.ensures.value in
+    let r = ready c.args.self.now c.args.tree.now c.m-m.result c.m-m.ensures.shape c.requires.decorated c.requires.marks c.m-m.ensures.value in
     let least = r.least in
     let long = r.degrees_long in
     omega arith
 
 pub next_degrees-requires-clause-degrees : goal.next_degrees-requires-clause-degrees
 next_degrees-requires-clause-degrees c =
-    let l = limits c.args.self.now.rank c.args.self.now.degree c.args.self.now.marks c.m-m.ensures.shape in
-    let small = l.most_degree in
-    let r = is_ready c.args.self.now c.args.tree.now c.m-m.result (omega arith) c.requires.decorated c.requires.marks c.m-m.ensures.value in
+    let r = ready c.args.self.now c.args.tree.now c.m-m.result c.m-m.ensures.shape c.requires.decorated c.requires.marks c.m-m.ensures.value in
     subst (λ d. AreDegrees (length (take (c.args.tree.now.n - 1) c.args.tree.now.degrees)) d (take (c.args.tree.now.n - 1) c.args.tree.now.degrees)) (sym c.d.ensures.value) r.degrees
 
 pub returns-then-next_degrees : goal.returns-then-next_degrees
@@ -58,31 +52,55 @@ returns-then-next_degrees c =
     c.next_degrees.new.degrees c.if-next_word.ensures
     (subst (λ d. DegreesGoOn d (take (c.args.tree.now.n - 1) c.args.tree.now.degrees) c.next_degrees.new.degrees true) c.d.ensures.value c.if-next_degrees.ensures)
 
-pub next_colours-requires-clause-tree : goal.next_colours-requires-clause-tree
-next_colours-requires-clause-tree c =
+pub raise_last_colour-requires-clause-tree : goal.raise_last_colour-requires-clause-tree
+raise_last_colour-requires-clause-tree c =
+    let r = ready c.args.self.now c.args.tree.now c.m-m.result c.m-m.ensures.shape c.requires.decorated c.requires.marks c.m-m.ensures.value in
+    (colours_ready c.args.self.now c.args.tree.now c.r-r.result c.as_slice-pairs.result.now _ r.colours c.r-r.ensures.value c.as_slice-pairs.ensures.value refl).tree
+
+pub raise_last_colour-requires-clause-within : goal.raise_last_colour-requires-clause-within
+raise_last_colour-requires-clause-within c =
+    let r = ready c.args.self.now c.args.tree.now c.m-m.result c.m-m.ensures.shape c.requires.decorated c.requires.marks c.m-m.ensures.value in
+    (colours_ready c.args.self.now c.args.tree.now c.r-r.result c.as_slice-pairs.result.now _ r.colours c.r-r.ensures.value c.as_slice-pairs.ensures.value refl).within
+
+pub raise_last_colour-requires-clause-differ : goal.raise_last_colour-requires-clause-differ
+raise_last_colour-requires-clause-differ c =
+    let r = ready c.args.self.now c.args.tree.now c.m-m.result c.m-m.ensures.shape c.requires.decorated c.requires.marks c.m-m.ensures.value in
+    (colours_ready c.args.self.now c.args.tree.now c.r-r.result c.as_slice-pairs.result.now _ r.colours c.r-r.ensures.value c.as_slice-pairs.ensures.value refl).differ
+
+pub raise_last_colour-requires-clause-digits : goal.raise_last_colour-requires-clause-digits
+raise_last_colour-requires-clause-digits c =
+    let r = ready c.args.self.now c.args.tree.now c.m-m.result c.m-m.ensures.shape c.requires.decorated c.requires.marks c.m-m.ensures.value in
+    (colours_ready c.args.self.now c.args.tree.now c.r-r.result c.as_slice-pairs.result.now _ r.colours c.r-r.ensures.value c.as_slice-pairs.ensures.value refl).digits
+
+pub returns-then-raise_last_colour : goal.returns-then-raise_last_colour
+returns-then-raise_last_colour c =
     let l = limits c.args.self.now.rank c.args.self.now.degree c.args.self.now.marks c.m-m.ensures.shape in
     let small = l.most_degree in
-    let r = is_ready c.args.self.now c.args.tree.now c.m-m.result (omega arith) c.requires.decorated c.requires.marks c.m-m.ensures.value in
-    subst (λ es. is_tree c.args.tree.now.n es ≡ true) (sym c.as_slice.ensures.value) r.tree
+    let r = ready c.args.self.now c.args.tree.now c.m-m.result c.m-m.ensures.shape c.requires.decorated c.requires.marks c.m-m.ensures.value in
+    tree_after_more c.args.self.now c.args.tree.now c.m-m.result (omega arith) c.requires.decorated c.requires.marks c.m-m.ensures.value c.requires.padded true
+    c.next_word.new.letters c.next_degrees.new.degrees c.raise_last_colour.new.colours c.r-r.result c.as_slice-pairs.result.now c.if-next_word.ensures
+    (subst (λ d. DegreesGoOn d (take (c.args.tree.now.n - 1) c.args.tree.now.degrees) c.next_degrees.new.degrees false) c.d.ensures.value c.if-next_degrees.ensures)
+    (c.raise_last_colour.auto.colours ∙ r.colours.long) c.r-r.ensures.value c.as_slice-pairs.ensures.value c.if-raise_last_colour.ensures.raised
+
+pub next_colours-requires-clause-tree : goal.next_colours-requires-clause-tree
+next_colours-requires-clause-tree c =
+    let r = ready c.args.self.now c.args.tree.now c.m-m.result c.m-m.ensures.shape c.requires.decorated c.requires.marks c.m-m.ensures.value in
+    (colours_ready c.args.self.now c.args.tree.now c.r-r.result c.as_slice-pairs.result.now _ r.colours c.r-r.ensures.value c.as_slice-pairs.ensures.value refl).tree
 
 pub next_colours-requires-clause-digits : goal.next_colours-requires-clause-digits
 next_colours-requires-clause-digits c =
-    let l = limits c.args.self.now.rank c.args.self.now.degree c.args.self.now.marks c.m-m.ensures.shape in
-    let small = l.most_degree in
-    let r = is_ready c.args.self.now c.args.tree.now c.m-m.result (omega arith) c.requires.decorated c.requires.marks c.m-m.ensures.value in
-    let own = take c.args.tree.now.n c.args.tree.now.colours in
-    subst (λ z. AreDigits (colour_bases c.args.tree.now.n z) (digits_of (walk_in c.args.tree.now.n c.as_slice.result.now (0 ∷ [])) own own)) (sym c.r.ensures.value)
-    (subst (λ es. AreDigits (colour_bases c.args.tree.now.n c.args.self.now.rank) (digits_of (walk_in c.args.tree.now.n es (0 ∷ [])) own own)) (sym c.as_slice.ensures.value) r.colours)
+    let r = ready c.args.self.now c.args.tree.now c.m-m.result c.m-m.ensures.shape c.requires.decorated c.requires.marks c.m-m.ensures.value in
+    (colours_ready c.args.self.now c.args.tree.now c.r-r.result c.as_slice-pairs.result.now c.raise_last_colour.new.colours r.colours c.r-r.ensures.value c.as_slice-pairs.ensures.value
+    c.if-raise_last_colour.ensures.kept).digits
 
 pub returns : goal.returns
 returns c =
     let l = limits c.args.self.now.rank c.args.self.now.degree c.args.self.now.marks c.m-m.ensures.shape in
     let small = l.most_degree in
-    let r = is_ready c.args.self.now c.args.tree.now c.m-m.result (omega arith) c.requires.decorated c.requires.marks c.m-m.ensures.value in
-    let kept = c.next_colours.auto.colours in
-    let own = r.colours_long in
-    let long : length c.next_colours.new.colours ≡ c.args.tree.now.n = omega arith in
+    let r = ready c.args.self.now c.args.tree.now c.m-m.result c.m-m.ensures.shape c.requires.decorated c.requires.marks c.m-m.ensures.value in
     tree_after_more c.args.self.now c.args.tree.now c.m-m.result (omega arith) c.requires.decorated c.requires.marks c.m-m.ensures.value c.requires.padded c.next_colours.result
-    c.next_word.new.letters c.next_degrees.new.degrees c.next_colours.new.colours c.r.result c.as_slice.result.now c.if-next_word.ensures
+    c.next_word.new.letters c.next_degrees.new.degrees c.next_colours.new.colours c.r-r.result c.as_slice-pairs.result.now c.if-next_word.ensures
     (subst (λ d. DegreesGoOn d (take (c.args.tree.now.n - 1) c.args.tree.now.degrees) c.next_degrees.new.degrees false) c.d.ensures.value c.if-next_degrees.ensures)
-    long c.r.ensures.value c.as_slice.ensures.value c.next_colours.ensures
+    (c.next_colours.auto.colours ∙ c.raise_last_colour.auto.colours ∙ r.colours.long) c.r-r.ensures.value c.as_slice-pairs.ensures.value
+    (subst (λ z. ColoursGoOn c.args.tree.now.n c.r-r.result c.as_slice-pairs.result.now z c.next_colours.new.colours c.next_colours.result)
+    c.if-raise_last_colour.ensures.kept c.next_colours.ensures)
