@@ -4,7 +4,7 @@ use Rattle.std.specs.List.{position_from}
 use Rattle.std.proofs.lemmas.Iterator.Adapters.{position_from-zero}
 use Rattle.std.proofs.lemmas.Bool.Decides.{nat_tests}
 use Rattle.std.proofs.lemmas.List.{drop_more, drop-set}
-use Rattle.std.proofs.Math.Nat.{div-add-mod, div-lt_iff_lt-mul}
+use Rattle.std.proofs.Math.Nat.{div-add-mod}
 use Rattle.std.proofs.Math.Seq.{drop-length}
 use Rattle.trees.specs.Numbering.{product_of, joined, split, AreDigits}
 use Rattle.trees.proofs.NumberingLaws.{split-joined}
@@ -89,10 +89,10 @@ base_positive (b ∷ bs) (suc i) h k = base_positive bs i (factor b (product_of 
     factor b zero h = rw mul-zero at h
     factor b (suc q) h = omega arith
 
--- a base above what is left of a limit takes the product above it
-pub product_above : (m n b q p : ℕ) → p ≡ n * (b * q) → 0 < p → 0 < n → m / n < b → m < p
-product_above m n b zero p e some pos h = absurd (let z = mul-zero b in omega (arith, ap (λ z. n * z) z))
-product_above m n b (suc q) p e some pos h = omega (arith, (div-lt_iff_lt-mul pos).0 h)
+-- the product of all bases is above a limit where that of the first ones is
+pub product_above : (m n b q p : ℕ) → p ≡ n * (b * q) → 0 < p → m < n * b → m < p
+product_above m n b zero p e some h = absurd (let z = mul-zero b in omega (arith, ap (λ z. n * z) z))
+product_above m n b (suc q) p e some h = omega arith
 
 -- ---- digits
 pub length-digits : (bs xs : List ℕ) → AreDigits bs xs → length xs ≡ length bs

@@ -199,10 +199,11 @@ fn product(bases: &[u64]) -> Option<u64>
 {
     let mut size = 1u64;
     for base in bases {
-        if *base > MOST_NUMBERS / size {
+        let next_size = size as u128 * *base as u128;
+        if next_size > MOST_NUMBERS as u128 {
             return None;
         }
-        size *= *base;
+        size = next_size as u64;
     }
     Some(size)
 }

@@ -3,9 +3,9 @@ use Rattle.trees.specs.Numbering.{product_of}
 use Rattle.mixed_radix.proofs.Places.{product-drop, product_above}
 use Rattle.mixed_radix.proofs.product.Goals as goal
 
-pub returns-then-base-size-clause-none : goal.returns-then-base-size-clause-none
-returns-then-base-size-clause-none c =
+pub returns-then-next_size-clause-none : goal.returns-then-next_size-clause-none
+returns-then-next_size-clause-none c =
     let i = c.loop-base.base-index in
     let bases = c.args.bases.now in
     let whole = c.loop-base.invariant.whole ∙ ap (λ q. c.loop-base.size * q) (product-drop bases i c.loop-base-test.true) in
-    (λ _. product_above 1099511627776 c.loop-base.size (slice_index_or bases i 0) (product_of (drop (i + 1) bases)) (product_of bases) whole c.requires c.loop-base.invariant.positive c.if-base-size.true, λ _. refl)
+    (λ _. product_above 1099511627776 c.loop-base.size (slice_index_or bases i 0) (product_of (drop (i + 1) bases)) (product_of bases) whole c.requires c.if-next_size.true, λ _. refl)
