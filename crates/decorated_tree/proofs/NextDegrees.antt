@@ -1,7 +1,10 @@
 -- The next list of degrees, and its rank.
-use Rattle.std.proofs.Common.{◌≡◌, ℕ, zero, suc, ◌+◌, ◌-◌, ◌<◌, ◌≤◌, Bool, true, false, List, [], ◌∷◌, ◌++◌, length, get_or, set, take, drop, replicate, refl, sym, ap, ◌∙◌, subst, arith, length-append, append-nil}
-use Rattle.std.proofs.lemmas.List.{length-replicate}
-use Rattle.std.proofs.Math.Seq.{set-append_seam, get_or-append_seam, drop-length, take-length}
+use Rattle.std.proofs.Common.{◌≡◌, ℕ, zero, suc, ◌+◌, ◌-◌, ◌<◌, ◌≤◌, Bool, true, false, List, [], ◌∷◌, ◌++◌, length, get_or, set, drop, replicate, sum, refl, sym, ap, ◌∙◌, subst, arith, leb-true, nat_le, length-append, get_or-set_same}
+use Rattle.std.specs.List.{list_all}
+use Rattle.std.proofs.lemmas.List.{length-replicate, get_or-replicate, set-get_or, set-set, drop_more}
+use Rattle.std.proofs.lemmas.List.Sums.{get_or-le-sum_by}
+use Rattle.std.proofs.Math.Seq.{set-append_seam, get_or-append_seam, drop-length}
+use Rattle.trees.proofs.AllTrees.{both}
 use Rattle.trees.specs.Numbering.{AreDegrees, choose, rank_of, lists_passed}
 use Rattle.trees.proofs.DegreeRanks.{ranked}
 use Rattle.decorated_tree.specs.Following.{GoOn, DegreesGoOn, first_degrees}
@@ -144,47 +147,136 @@ rank_goes_on n d old new false least most small h g =
     let last : rank_of old d + 1 ≡ choose (d - 1) (n - 2) = g.1 ∙ ap (choose (d - 1)) same in
     (own, ((below, tt), omega arith, omega arith))
 
--- ---- in one list, of which all but the first degree have gone on
-put_rest : (k a : ℕ) (old rest : List ℕ) → k ≡ length old → a ∷ (rest ++ drop k old) ≡ a ∷ rest
-put_rest k a old rest e = ap (λ z. a ∷ (rest ++ z)) (ap (λ z. drop z old) e ∙ drop-length old) ∙ ap (λ z. a ∷ z) (append-nil rest)
+-- ---- the list where only the first degree is above 1
+ones_set : (j : ℕ) → set {A = ℕ} (replicate (suc j) 1) j 1 ≡ replicate (suc j) 1
+ones_set j = let ones : List ℕ = replicate (suc j) 1 in ap (set ones j) (sym (get_or-replicate (suc j) j 1 0 (omega arith))) ∙ set-get_or ones j 0
 
-whole_rest : (k : ℕ) (old : List ℕ) → k ≡ length old → take k old ≡ old
-whole_rest k old e = ap (λ z. take z old) e ∙ take-length old
+counted : {k d : ℕ} (ds : List ℕ) → AreDegrees k d ds → AreDegrees (length ds) d ds
+counted ds h = record { long = refl; positive = h.positive; total = h.total }
 
-pub up_at : (d k : ℕ) (ds rest : List ℕ) → k ≡ length ds - 1 → 0 < k → AreDegrees (length ds) d ds → DegreesGoOn (d - get_or ds 0 0) (take k (drop 1 ds)) rest false
-    → 1 < get_or (take 1 ds ++ (rest ++ drop k (drop 1 ds))) k 0
-    → DegreesGoOn d ds (set (set (take 1 ds ++ (rest ++ drop k (drop 1 ds))) 0 (get_or ds 0 0 + 1)) k (get_or (set (take 1 ds ++ (rest ++ drop k (drop 1 ds))) 0 (get_or ds 0 0 + 1)) k 0 - 1)) true
-up_at d k [] rest e some h g more = absurd (omega arith)
-up_at d k (a ∷ old) rest e some h g more =
-    let long : k ≡ length old = omega arith in
-    let put = put_rest k a old rest long in
-    let up : suc (length old - 1) ≡ k = omega arith in
-    let own : DegreesGoOn (d - a) old rest false = subst (λ z. DegreesGoOn (d - a) z rest false) (whole_rest k old long) g in
-    let above : 1 < get_or rest (length old - 1) 0 = subst (λ z. 1 < get_or (a ∷ rest) z 0) (sym up) (subst (λ z. 1 < get_or z k 0) put more) in
-    subst (λ z. DegreesGoOn d (a ∷ old) (set (set z 0 (a + 1)) k (get_or (set z 0 (a + 1)) k 0 - 1)) true) (sym put)
-    (subst (λ z. DegreesGoOn d (a ∷ old) (set ((a + 1) ∷ rest) z (get_or ((a + 1) ∷ rest) z 0 - 1)) true) up (first_goes_up d a old rest (omega arith) h own above))
+last_list : (k d a : ℕ) → AreDegrees (suc k) d (a ∷ replicate k 1) → DegreesGoOn d (a ∷ replicate k 1) (set (1 ∷ replicate k 1) k a) false
+last_list zero d a h = one_list d a [] refl (counted (a ∷ []) h)
+last_list (suc j) d a h =
+    let ones : List ℕ = replicate (suc j) 1 in
+    let long = length-replicate (suc j) 1 in
+    let whole = counted (a ∷ ones) h in
+    let rest = subst (λ z. AreDegrees z (d - a) ones) long (rest_is_degrees d a ones whole) in
+    let below = subst (λ z. DegreesGoOn (d - a) ones z false) (ones_set j) (last_list j (d - a) 1 rest) in
+    let end : length ones - 1 ≡ j = omega arith in
+    let one : get_or ones (length ones - 1) 0 ≡ 1 = get_or-replicate (suc j) (length ones - 1) 1 0 (omega arith) in
+    let least : get_or ones (length ones - 1) 0 ≤ 1 = omega arith in
+    subst (λ z. DegreesGoOn d (a ∷ ones) (1 ∷ set ones z a) false) end (all_go_back d a ones ones (omega arith) whole below least)
 
-pub back_at : (d k : ℕ) (ds rest : List ℕ) → k ≡ length ds - 1 → 0 < k → AreDegrees (length ds) d ds → DegreesGoOn (d - get_or ds 0 0) (take k (drop 1 ds)) rest false
-    → get_or (take 1 ds ++ (rest ++ drop k (drop 1 ds))) k 0 ≤ 1
-    → DegreesGoOn d ds (set (set (take 1 ds ++ (rest ++ drop k (drop 1 ds))) 0 1) k (get_or ds 0 0)) false
-back_at d k [] rest e some h g most = absurd (omega arith)
-back_at d k (a ∷ old) rest e some h g most =
-    let long : k ≡ length old = omega arith in
-    let put = put_rest k a old rest long in
-    let up : suc (length old - 1) ≡ k = omega arith in
-    let own : DegreesGoOn (d - a) old rest false = subst (λ z. DegreesGoOn (d - a) z rest false) (whole_rest k old long) g in
-    let low : get_or rest (length old - 1) 0 ≤ 1 = subst (λ z. get_or (a ∷ rest) z 0 ≤ 1) (sym up) (subst (λ z. get_or z k 0 ≤ 1) put most) in
-    subst (λ z. DegreesGoOn d (a ∷ old) (set (set z 0 1) k a) false) (sym put)
-    (subst (λ z. DegreesGoOn d (a ∷ old) (set (1 ∷ rest) z a) false) up (all_go_back d a old rest (omega arith) h own low))
+all_back : (d : ℕ) (ds : List ℕ) → 0 < length ds → AreDegrees (length ds) d ds → drop 1 ds ≡ replicate (length ds - 1) 1
+    → DegreesGoOn d ds (set (set ds 0 1) (length ds - 1) (get_or ds 0 0)) false
+all_back d [] some h e = absurd (omega arith)
+all_back d (a ∷ rest) some h e =
+    let k : suc (length rest) - 1 ≡ length rest = omega arith in
+    let ones : rest ≡ replicate (length rest) 1 = e ∙ ap (λ z. replicate z 1) k in
+    by (length rest) rest ones h k
+  where
+    by : (k : ℕ) (rest : List ℕ) → rest ≡ replicate k 1 → AreDegrees (length (a ∷ rest)) d (a ∷ rest) → suc (length rest) - 1 ≡ k
+        → DegreesGoOn d (a ∷ rest) (set (1 ∷ rest) (length (a ∷ rest) - 1) a) false
+    by k rest ones h e =
+        let long = length-replicate k 1 in
+        let own = subst (λ z. AreDegrees (suc (length z)) d (a ∷ z)) ones h in
+        subst (λ z. DegreesGoOn d (a ∷ rest) (set (1 ∷ rest) z a) false) (sym e)
+        (subst (λ z. DegreesGoOn d (a ∷ z) (set (1 ∷ z) k a) false) (sym ones) (last_list k d a (subst (λ z. AreDegrees (suc z) d (a ∷ replicate k 1)) long own)))
 
-pub on_at : (d k : ℕ) (ds rest : List ℕ) → k ≡ length ds - 1 → 0 < k → AreDegrees (length ds) d ds → DegreesGoOn (d - get_or ds 0 0) (take k (drop 1 ds)) rest true
-    → DegreesGoOn d ds (take 1 ds ++ (rest ++ drop k (drop 1 ds))) true
-on_at d k [] rest e some h g = absurd (omega arith)
-on_at d k (a ∷ old) rest e some h g =
-    let long : k ≡ length old = omega arith in
-    let own : DegreesGoOn (d - a) old rest true = subst (λ z. DegreesGoOn (d - a) z rest true) (whole_rest k old long) g in
-    subst (λ z. DegreesGoOn d (a ∷ old) z true) (sym (put_rest k a old rest long)) (rest_goes_on d a old rest (omega arith) h own)
+-- ---- the last degree above 1
+-- it stands after the first place
+goes_up_first : (d a b k : ℕ) → AreDegrees (suc (suc k)) d (a ∷ b ∷ replicate k 1) → 1 < b
+    → DegreesGoOn d (a ∷ b ∷ replicate k 1) (set ((a + 1) ∷ 1 ∷ replicate k 1) (suc k) (b - 1)) true
+goes_up_first d a b k h more =
+    let old = b ∷ replicate k 1 in
+    let front = 1 ∷ replicate k 1 in
+    let ones = length-replicate {A = ℕ} k 1 in
+    let end : length old - 1 ≡ k = omega arith in
+    let whole = counted (a ∷ old) h in
+    let rest = subst (λ z. AreDegrees z (d - a) old) (let long : length old ≡ suc k = omega arith in long) (rest_is_degrees d a old whole) in
+    let back = last_list k (d - a) b rest in
+    let at : get_or (set front k b) k 0 ≡ b = get_or-set_same front k b 0 (omega arith) in
+    let up = subst (λ z. 1 < get_or (set front k b) z 0 → DegreesGoOn d (a ∷ old) ((a + 1) ∷ set (set front k b) z (get_or (set front k b) z 0 - 1)) true) end
+    (first_goes_up d a old (set front k b) (omega arith) whole back) in
+    subst (λ z. DegreesGoOn d (a ∷ old) ((a + 1) ∷ z) true) (ap (λ z. set (set front k b) k (z - 1)) at ∙ set-set front k b (b - 1)) (up (omega arith))
 
-pub alone : (d : ℕ) (ds : List ℕ) → 0 < length ds → length ds - 1 ≡ 0 → AreDegrees (length ds) d ds → DegreesGoOn d ds ds false
-alone d [] some one h = absurd (omega arith)
-alone d (a ∷ rest) some one h = one_list d a rest (omega arith) h
+goes_up_at : (d p : ℕ) (ds : List ℕ) → AreDegrees (length ds) d ds → suc p < length ds → 1 < get_or ds (suc p) 0 → drop (suc (suc p)) ds ≡ replicate (length ds - suc (suc p)) 1
+    → DegreesGoOn d ds (set (set (set ds p (get_or ds p 0 + 1)) (suc p) 1) (length ds - 1) (get_or ds (suc p) 0 - 1)) true
+goes_up_at d p [] h l more e = absurd (omega arith)
+goes_up_at d p (a ∷ []) h l more e = absurd (omega arith)
+goes_up_at d zero (a ∷ b ∷ tail) h l more e =
+    let k : suc (suc (length tail)) - 2 ≡ length tail = omega arith in
+    let end : suc (suc (length tail)) - 1 ≡ suc (length tail) = omega arith in
+    by (length tail) tail refl (e ∙ ap (λ z. replicate z 1) k) h end
+  where
+    by : (k : ℕ) (tail : List ℕ) → length tail ≡ k → tail ≡ replicate k 1 → AreDegrees (length (a ∷ b ∷ tail)) d (a ∷ b ∷ tail) → length (a ∷ b ∷ tail) - 1 ≡ suc k
+        → DegreesGoOn d (a ∷ b ∷ tail) (set ((a + 1) ∷ 1 ∷ tail) (length (a ∷ b ∷ tail) - 1) (b - 1)) true
+    by k tail long ones h end =
+        let own = subst (λ z. AreDegrees (suc (suc k)) d (a ∷ b ∷ z)) ones (subst (λ z. AreDegrees (suc (suc z)) d (a ∷ b ∷ tail)) long h) in
+        subst (λ z. DegreesGoOn d (a ∷ b ∷ tail) (set ((a + 1) ∷ 1 ∷ tail) z (b - 1)) true) (sym end)
+        (subst (λ z. DegreesGoOn d (a ∷ b ∷ z) (set ((a + 1) ∷ 1 ∷ z) (suc k) (b - 1)) true) (sym ones) (goes_up_first d a b k own more))
+goes_up_at d (suc q) (a ∷ b ∷ tail) h l more e =
+    let rest = b ∷ tail in
+    let k : length (a ∷ rest) - suc (suc (suc q)) ≡ length rest - suc (suc q) = omega arith in
+    let end : length (a ∷ rest) - 1 ≡ suc (length rest - 1) = omega arith in
+    let own = goes_up_at (d - a) q rest (rest_is_degrees d a rest h) (omega arith) more (e ∙ ap (λ z. replicate z 1) k) in
+    subst (λ z. DegreesGoOn d (a ∷ rest) (set (set (set (a ∷ rest) (suc q) (get_or rest q 0 + 1)) (suc (suc q)) 1) z (get_or rest (suc q) 0 - 1)) true) (sym end)
+    (rest_goes_on d a rest (set (set (set rest q (get_or rest q 0 + 1)) (suc q) 1) (length rest - 1) (get_or rest (suc q) 0 - 1)) (omega arith) h own)
+
+goes_up_after : (d i : ℕ) (ds : List ℕ) → AreDegrees (length ds) d ds → 1 ≤ i → i < length ds → 1 < get_or ds i 0 → drop (i + 1) ds ≡ replicate (length ds - (i + 1)) 1
+    → DegreesGoOn d ds (set (set (set ds (i - 1) (get_or ds (i - 1) 0 + 1)) i 1) (length ds - 1) (get_or ds i 0 - 1)) true
+goes_up_after d zero ds h some l more e = absurd (omega arith)
+goes_up_after d (suc p) ds h some l more e =
+    let before : suc p - 1 ≡ p = omega arith in
+    let next : suc p + 1 ≡ suc (suc p) = omega arith in
+    subst (λ z. DegreesGoOn d ds (set (set (set ds z (get_or ds z 0 + 1)) (suc p) 1) (length ds - 1) (get_or ds (suc p) 0 - 1)) true) (sym before)
+    (goes_up_at d p ds h l more (subst (λ z. drop z ds ≡ replicate (length ds - z) 1) next e))
+
+-- ---- the search for it
+-- from a place after the first on all degrees are 1, and nothing has changed
+pub record AreOnesFrom (place : ℕ) (old ds : List ℕ) : Type 0 where
+  pub some : 1 ≤ place
+  pub same : ds ≡ old
+  pub ones : drop place old ≡ replicate (length old - place) 1
+
+all_degrees : (ds : List ℕ) → list_all (λ a. nat_le 1 a) ds ≡ true → AreDegrees (length ds) (sum ds) ds
+all_degrees ds h = record { long = refl; positive = h; total = refl }
+
+pub ones_start : (ds : List ℕ) → 0 < length ds → AreOnesFrom (length ds) ds ds
+ones_start ds h = record { some = omega arith; same = refl; ones = drop-length ds ∙ ap (λ z. replicate z 1) (let none : 0 ≡ length ds - length ds = omega arith in none) }
+
+-- a degree that is not above 1 is 1
+pub ones_more : (place i : ℕ) (old ds : List ℕ) → list_all (λ a. nat_le 1 a) old ≡ true → place ≡ i + 1 → 1 ≤ i → i < length old → get_or ds i 0 ≤ 1 → AreOnesFrom place old ds → AreOnesFrom i old ds
+ones_more place i old ds h p some l most s =
+    let least = each_least old h i l in
+    let same : get_or ds i 0 ≡ get_or old i 0 = ap (λ z. get_or z i 0) s.same in
+    let one : get_or old i 0 ≡ 1 = omega arith in
+    let count : length old - i ≡ suc (length old - (i + 1)) = omega arith in
+    record {
+      some = some;
+      same = s.same;
+      ones = drop_more old i 0 l ∙ ap (λ z. z ∷ drop (i + 1) old) one ∙ ap (λ z. 1 ∷ z) (subst (λ z. drop z old ≡ replicate (length old - z) 1) p s.ones)
+          ∙ sym (ap (λ z. replicate z 1) count);
+    }
+  where
+    each_least : (ds : List ℕ) → list_all (λ a. nat_le 1 a) ds ≡ true → (i : ℕ) → i < length ds → 1 ≤ get_or ds i 0
+    each_least [] h i l = absurd (omega arith)
+    each_least (a ∷ ds) h zero l = leb-true 1 a (both _ _ h).0
+    each_least (a ∷ ds) h (suc i) l = each_least ds (both _ _ h).1 i (omega arith)
+
+pub goes_up : (place i : ℕ) (old ds : List ℕ) → list_all (λ a. nat_le 1 a) old ≡ true → place ≡ i + 1 → 1 ≤ i → i < length old → 1 < get_or ds i 0 → AreOnesFrom place old ds
+    → DegreesGoOn (sum old) old (set (set (set ds (i - 1) (get_or ds (i - 1) 0 + 1)) i 1) (length old - 1) (get_or ds i 0 - 1)) true
+goes_up place i old ds h p some l more s =
+    subst (λ z. DegreesGoOn (sum old) old (set (set (set z (i - 1) (get_or z (i - 1) 0 + 1)) i 1) (length old - 1) (get_or z i 0 - 1)) true) (sym s.same)
+    (goes_up_after (sum old) i old (all_degrees old h) some l (subst (λ z. 1 < get_or z i 0) s.same more) (subst (λ z. drop z old ≡ replicate (length old - z) 1) p s.ones))
+
+pub goes_back : (place : ℕ) (old ds : List ℕ) → list_all (λ a. nat_le 1 a) old ≡ true → place ≤ 1 → 0 < length old → AreOnesFrom place old ds
+    → DegreesGoOn (sum old) old (set (set ds 0 1) (length old - 1) (get_or ds 0 0)) false
+goes_back place old ds h most some s =
+    let least = s.some in
+    let first : place ≡ 1 = omega arith in
+    subst (λ z. DegreesGoOn (sum old) old (set (set z 0 1) (length old - 1) (get_or z 0 0)) false) (sym s.same)
+    (all_back (sum old) old some (all_degrees old h) (subst (λ z. drop z old ≡ replicate (length old - z) 1) first s.ones))
+
+pub degree_small : (place i : ℕ) (old ds : List ℕ) → i < length old → sum old ≤ 10 → AreOnesFrom place old ds → get_or ds i 0 ≤ 10
+degree_small place i old ds l small s = let same : get_or ds i 0 ≡ get_or old i 0 = ap (λ z. get_or z i 0) s.same in let most = get_or-le-sum_by (λ z. z) old i 0 l in omega arith

@@ -1,5 +1,5 @@
 -- A tree with the next number: its marks, degrees and colours by their digits.
-use Rattle.std.proofs.Common.{◌≡◌, ℕ, suc, ◌+◌, ◌-◌, ◌*◌, ◌<◌, ◌≤◌, Bool, true, false, ◌&&◌, ◌==◌, List, [], ◌∷◌, ◌++◌, length, take, drop, replicate, get_or, refl, sym, ap, ◌∙◌, subst, arith, eqb-true}
+use Rattle.std.proofs.Common.{◌≡◌, ℕ, suc, ◌+◌, ◌-◌, ◌*◌, ◌<◌, ◌≤◌, Bool, true, false, ◌&&◌, ◌==◌, List, [], ◌∷◌, ◌++◌, length, take, drop, replicate, get_or, sum, refl, sym, ap, ◌∙◌, subst, arith, eqb-true}
 use Rattle.std.specs.List.{list_all}
 use Rattle.std.specs.Bool.{OnTrue}
 use Rattle.std.proofs.lemmas.List.{length-replicate}
@@ -178,8 +178,8 @@ pub record IsReady (s : TreeShape) (t : Tree) (m : ℕ) : Type 0 where
   pub least : 2 ≤ t.n
   pub most : t.n ≤ 11
   pub marks : AreDigits (replicate (length (take m t.marks)) t.n) (take m t.marks)
-  pub degrees_long : length (take (t.n - 1) t.degrees) ≡ t.n - 1
-  pub degrees : AreDegrees (length (take (t.n - 1) t.degrees)) s.degree (take (t.n - 1) t.degrees)
+  pub degrees : AreDegrees (t.n - 1) s.degree (take (t.n - 1) t.degrees)
+  pub small : sum (take (t.n - 1) t.degrees) ≤ 10
   pub colours : AreTreeColours t.n s.rank t.edges (take t.n t.colours)
 
 pub is_ready : (s : TreeShape) (t : Tree) (m : ℕ) → s.degree < 11 → is_decorated s (tree_view t) ≡ true → t.m ≡ s.marks → m ≡ s.marks → IsReady s t m
@@ -193,8 +193,8 @@ is_ready s t m small h e f =
       least = k.least;
       most = omega arith;
       marks = subst (λ z. AreDigits (replicate (length (take z t.marks)) t.n) (take z t.marks)) same (subst (λ z. AreDigits (replicate z t.n) (take t.m t.marks)) (sym own) k.marks);
-      degrees_long = k.degrees.long;
-      degrees = subst (λ z. AreDegrees z s.degree (take (t.n - 1) t.degrees)) (sym k.degrees.long) k.degrees;
+      degrees = k.degrees;
+      small = (let total = k.degrees.total in omega arith);
       colours = record { least = k.least; tree = k.tree; long = d.colours; within = d.colours_within; differ = d.differ; digits = k.colours };
     }
 

@@ -4,13 +4,13 @@
 //! Only where all of these go back to their first values does the next tree have other edges. Of the colours that of the
 //! last vertex comes first, and its neighbours tell in most cases that no other changes; else the tree is walked.
 
-ghost use Rattle.std.specs.Prelude.{◌≡◌, ℕ, ◌+◌, ◌-◌, ◌<◌, ◌≤◌, ◌==◌, nat_le, true, [], ◌∷◌, length, replicate, IsTrue};
+ghost use Rattle.std.specs.Prelude.{◌≡◌, ℕ, ◌+◌, ◌-◌, ◌<◌, ◌≤◌, ◌==◌, nat_le, true, [], ◌∷◌, length, replicate, sum, IsTrue};
 ghost use Rattle.std.specs.Bool.{OnTrue, OnFalse};
 ghost use Rattle.std.specs.List.{list_all, list_any, count_by};
 ghost use Rattle.trees.specs.Edges.{is_tree};
 ghost use Rattle.trees.specs.Decorated.{all_trees, is_decorated, ends_differ};
 ghost use Rattle.trees.specs.Members.{IsIn};
-ghost use Rattle.trees.specs.Numbering.{AreDigits, AreDegrees};
+ghost use Rattle.trees.specs.Numbering.{AreDigits};
 ghost use Rattle.trees.specs.Numbers.{tree_count, tree_of, number_of};
 ghost use Rattle.trees.specs.Walks.{walk_in, digits_of};
 ghost use Rattle.decorated_tree.specs.Following.{GoOn, DegreesGoOn, ColoursGoOn, IsTreeAfter, colour_bases, joins_colour};
@@ -58,7 +58,7 @@ impl Shape {
         }
         let vertices = n as usize;
         let count = vertices - 1;
-        if next_degrees(&mut tree.degrees[..count], self.d()) {
+        if next_degrees(&mut tree.degrees[..count]) {
             return true;
         }
         let r = self.r();
@@ -89,27 +89,27 @@ fn next_word(base: u8, letters: &mut [u8]) -> bool
     false
 }
 
-/// Goes on to the next list of positive degrees with this sum in lexicographic order, and says whether there is one.
+/// Goes on to the next list of positive degrees with the same sum in lexicographic order, and says whether there is one.
 ///
-/// After the last list comes the first one.
-fn next_degrees(degrees: &mut [u8], sum: u8) -> bool
+/// The last degree above 1 gives 1 to the degree before it and keeps 1, and the rest goes to the end of the list. Where only
+/// the first one is above 1, the list is the last one, and after it comes the first one.
+fn next_degrees(degrees: &mut [u8]) -> bool
     requires some { 0 < length degrees.old }
-    requires degrees { AreDegrees (length degrees.old) sum degrees.old }
-    ensures { DegreesGoOn sum degrees.old degrees.new result }
+    requires positive { IsTrue (list_all (λ a. nat_le 1 a) degrees.old) }
+    requires small { sum degrees.old ≤ 10 }
+    ensures { DegreesGoOn (sum degrees.old) degrees.old degrees.new result }
 {
     let last = degrees.len() - 1;
-    if last == 0 {
-        return false;
+    for place in (1..degrees.len()).rev() {
+        let degree = degrees[place];
+        if degree > 1 {
+            degrees[place - 1] += 1;
+            degrees[place] = 1;
+            degrees[last] = degree - 1;
+            return true;
+        }
     }
     let first = degrees[0];
-    if next_degrees(&mut degrees[1..], sum - first) {
-        return true;
-    }
-    if degrees[last] > 1 {
-        degrees[0] = first + 1;
-        degrees[last] -= 1;
-        return true;
-    }
     degrees[0] = 1;
     degrees[last] = first;
     false

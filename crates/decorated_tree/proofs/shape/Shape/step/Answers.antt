@@ -1,6 +1,5 @@
-use Rattle.std.proofs.Common.{◌≡◌, ℕ, ◌-◌, true, false, length, take, refl, sym, ◌∙◌, subst, arith}
+use Rattle.std.proofs.Common.{◌≡◌, ℕ, ◌-◌, true, false, take, refl, ◌∙◌, subst, arith}
 use Rattle.trees.specs.Decorated.{TreeShape, is_decorated}
-use Rattle.trees.specs.Numbering.{AreDegrees}
 use Rattle.decorated_tree.specs.declared.tree.Tree.{Tree}
 use Rattle.decorated_tree.specs.Shapes.{within_limits}
 use Rattle.decorated_tree.specs.Trees.{tree_view}
@@ -36,21 +35,24 @@ pub next_degrees-requires-clause-some : goal.next_degrees-requires-clause-some
 next_degrees-requires-clause-some c =
     let r = ready c.args.self.now c.args.tree.now c.m-m.result c.m-m.ensures.shape c.requires.decorated c.requires.marks c.m-m.ensures.value in
     let least = r.least in
-    let long = r.degrees_long in
+    let long = r.degrees.long in
     omega arith
 
-pub next_degrees-requires-clause-degrees : goal.next_degrees-requires-clause-degrees
-next_degrees-requires-clause-degrees c =
-    let r = ready c.args.self.now c.args.tree.now c.m-m.result c.m-m.ensures.shape c.requires.decorated c.requires.marks c.m-m.ensures.value in
-    subst (λ d. AreDegrees (length (take (c.args.tree.now.n - 1) c.args.tree.now.degrees)) d (take (c.args.tree.now.n - 1) c.args.tree.now.degrees)) (sym c.d.ensures.value) r.degrees
+pub next_degrees-requires-clause-positive : goal.next_degrees-requires-clause-positive
+next_degrees-requires-clause-positive c =
+    (ready c.args.self.now c.args.tree.now c.m-m.result c.m-m.ensures.shape c.requires.decorated c.requires.marks c.m-m.ensures.value).degrees.positive
+
+pub next_degrees-requires-clause-small : goal.next_degrees-requires-clause-small
+next_degrees-requires-clause-small c = (ready c.args.self.now c.args.tree.now c.m-m.result c.m-m.ensures.shape c.requires.decorated c.requires.marks c.m-m.ensures.value).small
 
 pub returns-then-next_degrees : goal.returns-then-next_degrees
 returns-then-next_degrees c =
     let l = limits c.args.self.now.rank c.args.self.now.degree c.args.self.now.marks c.m-m.ensures.shape in
     let small = l.most_degree in
+    let r = ready c.args.self.now c.args.tree.now c.m-m.result c.m-m.ensures.shape c.requires.decorated c.requires.marks c.m-m.ensures.value in
     tree_after_degrees c.args.self.now c.args.tree.now c.m-m.result (omega arith) c.requires.decorated c.requires.marks c.m-m.ensures.value c.requires.padded c.next_word.new.letters
     c.next_degrees.new.degrees c.if-next_word.ensures
-    (subst (λ d. DegreesGoOn d (take (c.args.tree.now.n - 1) c.args.tree.now.degrees) c.next_degrees.new.degrees true) c.d.ensures.value c.if-next_degrees.ensures)
+    (subst (λ d. DegreesGoOn d (take (c.args.tree.now.n - 1) c.args.tree.now.degrees) c.next_degrees.new.degrees true) r.degrees.total c.if-next_degrees.ensures)
 
 pub raise_last_colour-requires-clause-tree : goal.raise_last_colour-requires-clause-tree
 raise_last_colour-requires-clause-tree c =
@@ -79,7 +81,7 @@ returns-then-raise_last_colour c =
     let r = ready c.args.self.now c.args.tree.now c.m-m.result c.m-m.ensures.shape c.requires.decorated c.requires.marks c.m-m.ensures.value in
     tree_after_more c.args.self.now c.args.tree.now c.m-m.result (omega arith) c.requires.decorated c.requires.marks c.m-m.ensures.value c.requires.padded true
     c.next_word.new.letters c.next_degrees.new.degrees c.raise_last_colour.new.colours c.r-r.result c.as_slice-pairs.result.now c.if-next_word.ensures
-    (subst (λ d. DegreesGoOn d (take (c.args.tree.now.n - 1) c.args.tree.now.degrees) c.next_degrees.new.degrees false) c.d.ensures.value c.if-next_degrees.ensures)
+    (subst (λ d. DegreesGoOn d (take (c.args.tree.now.n - 1) c.args.tree.now.degrees) c.next_degrees.new.degrees false) r.degrees.total c.if-next_degrees.ensures)
     (c.raise_last_colour.auto.colours ∙ r.colours.long) c.r-r.ensures.value c.as_slice-pairs.ensures.value c.if-raise_last_colour.ensures.raised
 
 pub next_colours-requires-clause-tree : goal.next_colours-requires-clause-tree
@@ -100,7 +102,7 @@ returns c =
     let r = ready c.args.self.now c.args.tree.now c.m-m.result c.m-m.ensures.shape c.requires.decorated c.requires.marks c.m-m.ensures.value in
     tree_after_more c.args.self.now c.args.tree.now c.m-m.result (omega arith) c.requires.decorated c.requires.marks c.m-m.ensures.value c.requires.padded c.next_colours.result
     c.next_word.new.letters c.next_degrees.new.degrees c.next_colours.new.colours c.r-r.result c.as_slice-pairs.result.now c.if-next_word.ensures
-    (subst (λ d. DegreesGoOn d (take (c.args.tree.now.n - 1) c.args.tree.now.degrees) c.next_degrees.new.degrees false) c.d.ensures.value c.if-next_degrees.ensures)
+    (subst (λ d. DegreesGoOn d (take (c.args.tree.now.n - 1) c.args.tree.now.degrees) c.next_degrees.new.degrees false) r.degrees.total c.if-next_degrees.ensures)
     (c.next_colours.auto.colours ∙ c.raise_last_colour.auto.colours ∙ r.colours.long) c.r-r.ensures.value c.as_slice-pairs.ensures.value
     (subst (λ z. ColoursGoOn c.args.tree.now.n c.r-r.result c.as_slice-pairs.result.now z c.next_colours.new.colours c.next_colours.result)
     c.if-raise_last_colour.ensures.kept c.next_colours.ensures)
