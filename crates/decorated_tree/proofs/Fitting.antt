@@ -162,7 +162,7 @@ number_is s t before number radix digits small h b r d n =
       tree = ap (tree_of s) value ∙ tree_of-number_of s (tree_view t) small good;
     }
 
-length-digits_of : (walk : List (ℕ × ℕ)) (cs ds : List ℕ) → length (digits_of walk cs ds) ≡ length ds
+pub length-digits_of : (walk : List (ℕ × ℕ)) (cs ds : List ℕ) → length (digits_of walk cs ds) ≡ length ds
 length-digits_of [] cs ds = refl
 length-digits_of (s ∷ walk) cs ds =
     let x = place_of (get_or cs s.0 0) (get_or cs s.1 0) in

@@ -19,6 +19,7 @@ use Rattle.trees.proofs.ColourDigits.{AreColours, colours_back}
 use Rattle.mixed_radix.proofs.Places.{length-digits, carry_start, carry_end}
 use Rattle.decorated_tree.specs.Following.{GoOn, ColoursGoOn, colour_bases, joins_colour}
 use Rattle.decorated_tree.proofs.Places.{length-coloured}
+use Rattle.decorated_tree.proofs.FirstColour.{other_place, only_zero, zero_there}
 
 -- ---- the edges of the last vertex
 -- such an edge has it second
@@ -87,10 +88,6 @@ follows_raised (s ∷ walk) before v c ds cs k l w r f = (step (cases_eq v s.0) 
         get_or-set_other cs v s.0 c 0 (λ k. ne (sym k)) ∙ f.0
         ∙ ap (λ z. lifted z (get_or cs s.1 0)) (sym (get_or-set_other ds v s.0 (get_or ds v 0 + 1) 0 (λ k. ne (sym k))))
         ∙ ap (lifted (get_or (set ds v (get_or ds v 0 + 1)) s.0 0)) (sym (get_or-set_other cs v s.1 c 0 (λ k. other (sym k))))
-
--- what is said of one place or another, and not of the first
-other_place : (x u : ℕ) (b : Bool) → x ≢ u → ((x == u) || b) ≡ true → b ≡ true
-other_place x u b ne h = grind (arith, nat_tests)
 
 -- no neighbour has the next colour
 free_raised : (es walk : List (ℕ × ℕ)) (v : ℕ) (ds cs : List ℕ) → ((u : ℕ) → IsIn (edge_between u v) es → get_or cs u 0 ≢ get_or cs v 0 + 1) → AlongEdges es walk
@@ -212,8 +209,8 @@ raised n r v es cs c e h most raises follows =
     let new_follows = follows_raised walk (0 ∷ []) v c ds cs (omega arith) (omega arith) t.walks raises follows in
     let coloured_follow = coloured_follows walk (0 ∷ []) xs xs t.walks (subst (λ m. Within walk m) (sym new_count) t.within) in
     let first : get_or (set cs v c) 0 0 ≡ get_or (coloured walk xs xs) 0 0 =
-    get_or-set_other cs v 0 c 0 (λ z. absurd (omega arith)) ∙ sym (digits_keep walk (0 ∷ []) cs cs 0 t.walks (zero_there 0 refl))
-    ∙ sym (get_or-set_other ds v 0 (get_or ds v 0 + 1) 0 (λ z. absurd (omega arith))) ∙ sym (coloured_keeps walk (0 ∷ []) xs xs 0 t.walks (zero_there 0 refl)) in
+    get_or-set_other cs v 0 c 0 (λ z. absurd (omega arith)) ∙ sym (digits_keep walk (0 ∷ []) cs cs 0 t.walks zero_there)
+    ∙ sym (get_or-set_other ds v 0 (get_or ds v 0 + 1) 0 (λ z. absurd (omega arith))) ∙ sym (coloured_keeps walk (0 ∷ []) xs xs 0 t.walks zero_there) in
     let same = follows_once walk (0 ∷ []) xs (set cs v c) (coloured walk xs xs) t.walks
     (λ u m. subst (λ z. get_or (set cs v c) z 0 ≡ get_or (coloured walk xs xs) z 0) (only_zero u m) first) new_follows coloured_follow in
     record {
@@ -223,12 +220,6 @@ raised n r v es cs c e h most raises follows =
           (λ i k. ⊎_elim (λ z. subst (λ j. get_or (set cs v c) j 0 ≡ get_or (coloured walk xs xs) j 0) z first)
           (λ ne. same i (t.reaches i (let l = length-set cs v c in omega arith) ne)) (cases_eq 0 i));
     }
-  where
-    only_zero : (u : ℕ) → ((0 == u) || false) ≡ true → 0 ≡ u
-    only_zero u h = grind (arith, nat_tests)
-
-    zero_there : (u : ℕ) → 0 ≡ u → ((0 == u) || false) ≡ true
-    zero_there u h = grind (arith, nat_tests)
 
 follows_own : (n r : ℕ) (es : List (ℕ × ℕ)) (cs : List ℕ) → AreTreeColours n r es cs → Follows (walk_in n es (0 ∷ [])) (digits_of (walk_in n es (0 ∷ [])) cs cs) cs
 follows_own n r es cs h =

@@ -8,5 +8,6 @@ pub mod Places
 pub mod Fitting
 pub mod Counting
 pub mod NextDegrees
+pub mod FirstColour
 pub mod LastColour
 pub mod NextTree

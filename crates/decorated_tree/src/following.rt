@@ -179,10 +179,10 @@ fn next_colours(n: u8, r: u8, edges: &[(u8, u8)], colours: &mut [u8]) -> bool
     let walk = walk_from_zero(n, edges);
     let mut places = [0; 11];
     let digits = &mut places[..n as usize];
-    digits.copy_from_slice(colours);
+    digits[0] = colours[0];
     uncolour(walk.as_slice(), colours, digits);
     let more = next_places(r, digits);
-    colours.copy_from_slice(digits);
+    colours[0] = digits[0];
     colour(walk.as_slice(), digits, colours);
     more
 }
