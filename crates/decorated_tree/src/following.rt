@@ -2,7 +2,7 @@
 //!
 //! The digits of a number of a tree go on as those of a counter: the marks first, then the degrees, then the colours.
 //! Only where all of these go back to their first values does the next tree have other edges. Of the colours that of the
-//! last vertex comes first, and its neighbours tell in most cases that no other changes; else the tree is walked.
+//! last vertex comes first, and its neighbours often tell that no other changes; else the tree is walked.
 
 ghost use Rattle.std.specs.Prelude.{◌≡◌, ℕ, ◌+◌, ◌-◌, ◌<◌, ◌≤◌, ◌==◌, nat_le, true, [], ◌∷◌, length, replicate, sum, IsTrue};
 ghost use Rattle.std.specs.Bool.{OnTrue, OnFalse};
