@@ -1,7 +1,7 @@
 -- A tree with the next number: its marks, degrees and colours by their digits.
 use Rattle.std.proofs.Common.{◌≡◌, ℕ, suc, ◌+◌, ◌-◌, ◌*◌, ◌<◌, ◌≤◌, Bool, true, false, ◌&&◌, ◌==◌, List, [], ◌∷◌, ◌++◌, length, take, drop, replicate, get_or, sum, refl, sym, ap, ◌∙◌, subst, arith, eqb-true}
 use Rattle.std.specs.List.{list_all}
-use Rattle.std.specs.Bool.{OnTrue}
+use Rattle.std.specs.Bool.{OnTrue, OnFalse}
 use Rattle.std.proofs.lemmas.List.{length-replicate}
 use Rattle.std.proofs.Math.Seq.{take-append_seam, drop-append_seam}
 use Rattle.trees.specs.Edges.{is_tree}
@@ -19,7 +19,7 @@ use Rattle.trees.proofs.NumberLaws.{tree_of_decorated, number_of-tree_of, tree_o
 use Rattle.mixed_radix.proofs.Places.{length-digits}
 use Rattle.decorated_tree.specs.declared.tree.Tree.{Tree}
 use Rattle.decorated_tree.specs.Trees.{tree_view, is_padded}
-use Rattle.decorated_tree.specs.Following.{GoOn, DegreesGoOn, ColoursGoOn, IsTreeAfter, colour_bases}
+use Rattle.decorated_tree.specs.Following.{GoOn, DegreesGoOn, ColoursGoOn, IsTreeAfter, IsLastWithEdges, colour_bases}
 use Rattle.decorated_tree.proofs.Places.{view_of, parts_at}
 use Rattle.decorated_tree.proofs.Counting.{digits_part, go_on_after, go_on_carry}
 use Rattle.decorated_tree.proofs.NextDegrees.{rank_goes_on}
@@ -286,6 +286,14 @@ module _ (s : TreeShape) (t : Tree) (m : ℕ) (small : s.degree < 11) (h : is_de
   tree_after_more true ms ds cs r edges g first long p q goes =
       tree_after_colours ms ds cs g first long
       (subst (λ z. ColoursGoOn t.n s.rank z (take t.n t.colours) cs true) q (subst (λ z. ColoursGoOn t.n z edges (take t.n t.colours) cs true) p goes))
+
+  pub none_after : (more : Bool) (ms ds cs : List ℕ) (r : ℕ) (edges : List (ℕ × ℕ)) → GoOn (replicate (length (take m t.marks)) t.n) (take m t.marks) ms false
+      → DegreesGoOn s.degree (take (t.n - 1) t.degrees) ds false → r ≡ s.rank → edges ≡ t.edges → ColoursGoOn t.n r edges (take t.n t.colours) cs more
+      → OnFalse more (IsLastWithEdges s (tree_view t))
+  none_after true ms ds cs r edges g first p q goes = tt
+  none_after false ms ds cs r edges g first p q goes =
+      let colours = subst (λ z. ColoursGoOn t.n s.rank z (take t.n t.colours) cs false) q (subst (λ z. ColoursGoOn t.n z edges (take t.n t.colours) cs false) p goes) in
+      record { marks = (own_marks ms false g).0.2; degrees = first.1; colours = colours.next.2 }
 
 -- ---- the tree of the next number
 pub decorated_before : (s : TreeShape) (k : ℕ) (t : Tree) → s.degree < 11 → k < tree_count s → tree_view t ≡ tree_of s k → is_decorated s (tree_view t) ≡ true

@@ -1,6 +1,6 @@
 -- Digits that go on to the next number, and the tree after a tree.
 use Rattle.std.specs.Prelude.{◌≡◌, ℕ, ◌+◌, ◌-◌, ◌==◌, ◌&&◌, Bool, true, false, List, [], ◌∷◌, ◌++◌, length, replicate, slice_index}
-use Rattle.trees.specs.Decorated.{TreeShape, is_decorated}
+use Rattle.trees.specs.Decorated.{TreeShape, DecoratedTree, is_decorated}
 use Rattle.trees.specs.Numbering.{AreDigits, AreDegrees, joined, product_of, choose, rank_of}
 use Rattle.trees.specs.Numbers.{number_of}
 use Rattle.trees.specs.Walks.{walk_in, coloured, digits_of}
@@ -41,3 +41,10 @@ pub record IsTreeAfter (s : TreeShape) (t u : Tree) : Type 0 where
   pub number : number_of s (tree_view u) ≡ number_of s (tree_view t) + 1
   pub marks : u.m ≡ s.marks
   pub padding : is_padded u ≡ true
+
+-- no later tree has these edges: the digits of the marks, the degrees and the colours are the greatest ones
+pub record IsLastWithEdges (s : TreeShape) (g : DecoratedTree) : Type 0 where
+  pub marks : joined (replicate s.marks g.vertices) g.marks + 1 ≡ product_of (replicate s.marks g.vertices)
+  pub degrees : rank_of g.degrees s.degree + 1 ≡ choose (s.degree - 1) (length g.degrees - 1)
+  pub colours : joined (colour_bases g.vertices s.rank) (digits_of (walk_in g.vertices g.edges (0 ∷ [])) g.colours g.colours) + 1
+      ≡ product_of (colour_bases g.vertices s.rank)

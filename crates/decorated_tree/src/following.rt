@@ -13,7 +13,7 @@ ghost use Rattle.trees.specs.Members.{IsIn};
 ghost use Rattle.trees.specs.Numbering.{AreDigits};
 ghost use Rattle.trees.specs.Numbers.{tree_count, tree_of, number_of};
 ghost use Rattle.trees.specs.Walks.{walk_in, digits_of};
-ghost use Rattle.decorated_tree.specs.Following.{GoOn, DegreesGoOn, ColoursGoOn, IsTreeAfter, colour_bases, joins_colour};
+ghost use Rattle.decorated_tree.specs.Following.{GoOn, DegreesGoOn, ColoursGoOn, IsTreeAfter, IsLastWithEdges, colour_bases, joins_colour};
 ghost use Rattle.decorated_tree.specs.Steps.{AreWithin};
 ghost use Rattle.decorated_tree.specs.Trees.{tree_view, is_padded};
 
@@ -49,7 +49,8 @@ impl Shape {
         requires decorated { IsTrue (is_decorated self.now (tree_view tree.old)) }
         requires marks { tree.old.m ≡ self.now.marks }
         requires padded { IsTrue (is_padded tree.old) }
-        ensures { OnTrue result (IsTreeAfter self.now tree.old tree.new) }
+        ensures after { OnTrue result (IsTreeAfter self.now tree.old tree.new) }
+        ensures last { OnFalse result (IsLastWithEdges self.now (tree_view tree.old)) }
     {
         let n = tree.n;
         let m = self.m() as usize;

@@ -1,4 +1,4 @@
-use Rattle.std.proofs.Common.{◌-◌, ◌+◌, ◌≤◌, arith, sym, subst, ap, length}
+use Rattle.std.proofs.Common.{◌-◌, ◌+◌, arith, sym, subst, ap, length}
 use Rattle.decorated_tree.specs.Steps.{AreWithin}
 use Rattle.decorated_tree.proofs.Walking.{walk_of_tree, stepped, not_stepped, walked, walked_all}
 use Rattle.decorated_tree.proofs.walk.walk_from_zero.Goals.{in-Some, in_default}

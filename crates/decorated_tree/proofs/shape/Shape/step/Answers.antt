@@ -5,7 +5,7 @@ use Rattle.decorated_tree.specs.Shapes.{within_limits}
 use Rattle.decorated_tree.specs.Trees.{tree_view}
 use Rattle.decorated_tree.specs.Following.{DegreesGoOn, ColoursGoOn}
 use Rattle.decorated_tree.proofs.Counts.{limits}
-use Rattle.decorated_tree.proofs.NextTree.{IsReady, is_ready, colours_ready, tree_after_marks, tree_after_degrees, tree_after_more}
+use Rattle.decorated_tree.proofs.NextTree.{IsReady, is_ready, colours_ready, tree_after_marks, tree_after_degrees, tree_after_more, none_after}
 use Rattle.decorated_tree.proofs.shape.Shape.step.Goals as goal
 
 ready : (s : TreeShape) (t : Tree) (m : ℕ) → within_limits s ≡ true → is_decorated s (tree_view t) ≡ true → t.m ≡ s.marks → m ≡ s.marks → IsReady s t m
@@ -14,8 +14,8 @@ ready s t m within = let l = limits s.rank s.degree s.marks within in let small 
 pub next_word-requires : goal.next_word-requires
 next_word-requires c = (ready c.args.self.now c.args.tree.now c.m-m.result c.m-m.ensures.shape c.requires.decorated c.requires.marks c.m-m.ensures.value).marks
 
-pub returns-then-next_word : goal.returns-then-next_word
-returns-then-next_word c =
+pub returns-then-next_word-clause-after : goal.returns-then-next_word-clause-after
+returns-then-next_word-clause-after c =
     let l = limits c.args.self.now.rank c.args.self.now.degree c.args.self.now.marks c.m-m.ensures.shape in
     let small = l.most_degree in
     tree_after_marks c.args.self.now c.args.tree.now c.m-m.result (omega arith) c.requires.decorated c.requires.marks c.m-m.ensures.value c.requires.padded c.next_word.new.letters
@@ -45,8 +45,8 @@ next_degrees-requires-clause-positive c =
 pub next_degrees-requires-clause-small : goal.next_degrees-requires-clause-small
 next_degrees-requires-clause-small c = (ready c.args.self.now c.args.tree.now c.m-m.result c.m-m.ensures.shape c.requires.decorated c.requires.marks c.m-m.ensures.value).small
 
-pub returns-then-next_degrees : goal.returns-then-next_degrees
-returns-then-next_degrees c =
+pub returns-then-next_degrees-clause-after : goal.returns-then-next_degrees-clause-after
+returns-then-next_degrees-clause-after c =
     let l = limits c.args.self.now.rank c.args.self.now.degree c.args.self.now.marks c.m-m.ensures.shape in
     let small = l.most_degree in
     let r = ready c.args.self.now c.args.tree.now c.m-m.result c.m-m.ensures.shape c.requires.decorated c.requires.marks c.m-m.ensures.value in
@@ -74,8 +74,8 @@ raise_last_colour-requires-clause-digits c =
     let r = ready c.args.self.now c.args.tree.now c.m-m.result c.m-m.ensures.shape c.requires.decorated c.requires.marks c.m-m.ensures.value in
     (colours_ready c.args.self.now c.args.tree.now c.r-r.result c.as_slice-pairs.result.now _ r.colours c.r-r.ensures.value c.as_slice-pairs.ensures.value refl).digits
 
-pub returns-then-raise_last_colour : goal.returns-then-raise_last_colour
-returns-then-raise_last_colour c =
+pub returns-then-raise_last_colour-clause-after : goal.returns-then-raise_last_colour-clause-after
+returns-then-raise_last_colour-clause-after c =
     let l = limits c.args.self.now.rank c.args.self.now.degree c.args.self.now.marks c.m-m.ensures.shape in
     let small = l.most_degree in
     let r = ready c.args.self.now c.args.tree.now c.m-m.result c.m-m.ensures.shape c.requires.decorated c.requires.marks c.m-m.ensures.value in
@@ -95,8 +95,8 @@ next_colours-requires-clause-digits c =
     (colours_ready c.args.self.now c.args.tree.now c.r-r.result c.as_slice-pairs.result.now c.raise_last_colour.new.colours r.colours c.r-r.ensures.value c.as_slice-pairs.ensures.value
     c.if-raise_last_colour.ensures.kept).digits
 
-pub returns : goal.returns
-returns c =
+pub returns-clause-after : goal.returns-clause-after
+returns-clause-after c =
     let l = limits c.args.self.now.rank c.args.self.now.degree c.args.self.now.marks c.m-m.ensures.shape in
     let small = l.most_degree in
     let r = ready c.args.self.now c.args.tree.now c.m-m.result c.m-m.ensures.shape c.requires.decorated c.requires.marks c.m-m.ensures.value in
@@ -104,5 +104,17 @@ returns c =
     c.next_word.new.letters c.next_degrees.new.degrees c.next_colours.new.colours c.r-r.result c.as_slice-pairs.result.now c.if-next_word.ensures
     (subst (λ d. DegreesGoOn d (take (c.args.tree.now.n - 1) c.args.tree.now.degrees) c.next_degrees.new.degrees false) r.degrees.total c.if-next_degrees.ensures)
     (c.next_colours.auto.colours ∙ c.raise_last_colour.auto.colours ∙ r.colours.long) c.r-r.ensures.value c.as_slice-pairs.ensures.value
+    (subst (λ z. ColoursGoOn c.args.tree.now.n c.r-r.result c.as_slice-pairs.result.now z c.next_colours.new.colours c.next_colours.result)
+    c.if-raise_last_colour.ensures.kept c.next_colours.ensures)
+
+pub returns-clause-last : goal.returns-clause-last
+returns-clause-last c =
+    let l = limits c.args.self.now.rank c.args.self.now.degree c.args.self.now.marks c.m-m.ensures.shape in
+    let small = l.most_degree in
+    let r = ready c.args.self.now c.args.tree.now c.m-m.result c.m-m.ensures.shape c.requires.decorated c.requires.marks c.m-m.ensures.value in
+    none_after c.args.self.now c.args.tree.now c.m-m.result (omega arith) c.requires.decorated c.requires.marks c.m-m.ensures.value c.requires.padded c.next_colours.result
+    c.next_word.new.letters c.next_degrees.new.degrees c.next_colours.new.colours c.r-r.result c.as_slice-pairs.result.now c.if-next_word.ensures
+    (subst (λ d. DegreesGoOn d (take (c.args.tree.now.n - 1) c.args.tree.now.degrees) c.next_degrees.new.degrees false) r.degrees.total c.if-next_degrees.ensures)
+    c.r-r.ensures.value c.as_slice-pairs.ensures.value
     (subst (λ z. ColoursGoOn c.args.tree.now.n c.r-r.result c.as_slice-pairs.result.now z c.next_colours.new.colours c.next_colours.result)
     c.if-raise_last_colour.ensures.kept c.next_colours.ensures)
