@@ -4,18 +4,9 @@ use Rattle.std.specs.Int.{◌∣◌, IsGcd}
 use Rattle.std.proofs.lemmas.Nat.Gcd.{IsGcd-from_zero, IsGcd-from_mod, IsGcd-swap, same_from_IsGcd}
 use Rattle.std.proofs.Math.Nat.{mod-lt, zero-lt-suc, div-add-mod, add-mul-mod_self_left, dvd-mul_right_of_dvd, dvd-add_iff_right, eq-one_of_dvd-one, mod-eq_of_lt}
 use Rattle.arithmetic.proofs.Congruences.{Same, same_refl, same_of_eq, same_sym, same_trans, same_add, same_mul, same_mod, same_multiple, same_cancel}
-use Rattle.arithmetic.specs.Numbers.{gcd, gcd_in_steps}
-
-gcd_in_steps_is : (k a b : ℕ) → b < k → IsGcd a b (gcd_in_steps k a b)
-gcd_in_steps_is zero a b h = absurd (omega arith)
-gcd_in_steps_is (suc k) a zero h = IsGcd-from_zero a 0 refl
-gcd_in_steps_is (suc k) a (suc b) h =
-    let below : a % suc b < suc b = mod-lt a (zero-lt-suc b) in
-    IsGcd-from_mod a (suc b) (gcd_in_steps k (suc b) (a % suc b)) (gcd_in_steps_is k (suc b) (a % suc b) (omega arith))
-
-pub gcd_is : (a b : ℕ) → IsGcd a b (gcd a b)
-unfolding gcd
-gcd_is a b = gcd_in_steps_is (suc b) a b (omega arith)
+use Rattle.arithmetic.specs.Numbers.{gcd}
+use Rattle.arithmetic.proofs.Euclid.{remainder_in_steps, last_remainder, gcd_is_last_remainder}
+pub use Rattle.arithmetic.proofs.Euclid.{gcd_is}
 
 pub gcd_from_IsGcd : (a b g : ℕ) → IsGcd a b g → gcd a b ≡ g
 gcd_from_IsGcd a b g h = same_from_IsGcd a b (gcd a b) g (gcd_is a b) h
@@ -40,7 +31,7 @@ combination_step a b q r g e h = record {
     turned : (b q r g s t s' t' : ℕ) → b * s + r * t ≡ g + b * s' + r * t' → (b * q + r) * t + b * (s + q * t') ≡ g + (b * q + r) * t' + b * (s' + q * t)
     turned b q r g s t s' t' i = omega arith
 
-combination_in_steps : (k a b : ℕ) → b < k → IsCombination a b (gcd_in_steps k a b)
+combination_in_steps : (k a b : ℕ) → b < k → IsCombination a b (remainder_in_steps k a b)
 combination_in_steps zero a b h = absurd (omega arith)
 combination_in_steps (suc k) a zero h = record { s = 1; t = 0; s' = 0; t' = 0; is = omega arith }
 combination_in_steps (suc k) a (suc b) h =
@@ -48,8 +39,8 @@ combination_in_steps (suc k) a (suc b) h =
     combination_step a (suc b) (a / suc b) (a % suc b) _ (sym (div-add-mod a (suc b))) (combination_in_steps k (suc b) (a % suc b) (omega arith))
 
 pub combination : (a b : ℕ) → IsCombination a b (gcd a b)
-unfolding gcd
-combination a b = combination_in_steps (suc b) a b (omega arith)
+unfolding last_remainder
+combination a b = subst (IsCombination a b) (sym (gcd_is_last_remainder a b)) (combination_in_steps (suc b) a b (omega arith))
 
 -- x has an inverse modulo m
 pub record IsUnit (m x : ℕ) : Type 0 where
@@ -81,8 +72,7 @@ gcd-from_IsUnit m x h u =
     eq-one_of_dvd-one ((dvd-add_iff_right (gcd x m) left).1 both)
 
 pub gcd-zero : (a : ℕ) → gcd a 0 ≡ a
-unfolding gcd
-gcd-zero a = refl
+gcd-zero a = gcd_from_IsGcd a 0 a (IsGcd-from_zero a 0 refl)
 
 pub gcd_comm : (a b : ℕ) → gcd a b ≡ gcd b a
 gcd_comm a b = gcd_from_IsGcd a b (gcd b a) (IsGcd-swap b a (gcd b a) (gcd_is b a))

@@ -1,6 +1,7 @@
 -- Laws of whole numbers, and of their residues modulo m.
 use Rattle.std.proofs.Common.{◌≡◌, ℕ, zero, suc, ◌+◌, ◌-◌, ◌*◌, ◌/◌, ◌%◌, ◌<◌, ℤ, pos, negsuc, ◌+ℤ◌, ◌-ℤ◌, ◌*ℤ◌, nat_abs, refl, sym, ap, subst, ◌∙◌, arith, ⊎_elim}
 use Rattle.arithmetic.specs.Numbers.{power, reduce, gcd}
+use Rattle.arithmetic.proofs.Euclid.{last_remainder, gcd_by_euclid}
 use Rattle.std.proofs.lemmas.Nat.{mul-mod}
 use Rattle.std.proofs.Math.Nat.{add-mod, add-mul-mod_self_left, mod-lt, div-add-mod, mod-eq_of_lt, mod-one, zero-lt-suc, zero-add, dvd-mul_right, mod-eq-sub-mod, suc-mod, mod-eq-zero_of_dvd, dvd_of_mod-eq-zero}
 use Rattle.std.specs.Int.{◌∣◌}
@@ -9,8 +10,8 @@ use Rattle.std.proofs.lemmas.Bool.{cases_lt}
 use borrow.Author.Differences.{up, down, same_in, sum_is_lem, product_is}
 
 worked_gcd : gcd 123456789012345678 987654321987654321 ≡ 9
-unfolding gcd
-worked_gcd = refl
+unfolding last_remainder
+worked_gcd = gcd_by_euclid _ _ 9 refl
 
 worked_power : power (negsuc 1) 5 ≡ negsuc 31
 worked_power = refl

@@ -1,7 +1,8 @@
 -- Worked numbers: the definitions computed, and compared with values from outside.
 use Rattle.std.proofs.Common.{◌≡◌, ℕ, List, [], ◌∷◌, map, refl, true, false, ℤ, pos, negsuc, ◌*ℤ◌, lit<}
 use Rattle.std.proofs.lemmas.Nat.Gcd.{dvd_of_mod-eq-zero}
-use Rattle.arithmetic.specs.Numbers.{gcd}
+use Rattle.arithmetic.specs.Numbers.{gcd, greatest_divisor}
+use Rattle.arithmetic.proofs.Euclid.{last_remainder, gcd_by_euclid}
 use Rattle.arithmetic.specs.Fractions.{Fraction, IsResidue}
 use Rattle.trees.specs.Decorated.{TreeShape, is_decorated, all_trees}
 use Rattle.trees.specs.Words.{decoded}
@@ -47,32 +48,32 @@ IsFraction f p q = f.top *ℤ q ≡ p *ℤ f.bottom
 -- ---- one edge, one vertex, one class; the weights are 1 and 3, the modulus 101
 
 edge_of_degree_two : IsResidue 101 (edge_fraction line_weights 0 1 2) 38
-unfolding line_weights edge_top edge_bottom colour_product other_colours_product gcd
-edge_of_degree_two = record { below = lit< tt; unit = refl; divides = dvd_of_mod-eq-zero 101 refl }
+unfolding line_weights edge_top edge_bottom colour_product other_colours_product last_remainder
+edge_of_degree_two = record { below = lit< tt; unit = gcd_by_euclid _ _ 1 refl; divides = dvd_of_mod-eq-zero 101 refl }
 
 two_ends : IsResidue 101 (vertex_fraction line_weights 0 (end_of 1 1 ∷ end_of 1 1 ∷ []) []) 51
-unfolding line_weights end_of plain_vertex tangent_product gcd
-two_ends = record { below = lit< tt; unit = refl; divides = dvd_of_mod-eq-zero 101 refl }
+unfolding line_weights end_of plain_vertex tangent_product last_remainder
+two_ends = record { below = lit< tt; unit = gcd_by_euclid _ _ 1 refl; divides = dvd_of_mod-eq-zero 101 refl }
 
 two_ends_and_a_mark : IsResidue 101 (vertex_fraction line_weights 0 (end_of 1 1 ∷ end_of 1 1 ∷ []) (0 ∷ [])) 50
-unfolding line_weights end_of plain_vertex tangent_product gcd
-two_ends_and_a_mark = record { below = lit< tt; unit = refl; divides = dvd_of_mod-eq-zero 101 refl }
+unfolding line_weights end_of plain_vertex tangent_product last_remainder
+two_ends_and_a_mark = record { below = lit< tt; unit = gcd_by_euclid _ _ 1 refl; divides = dvd_of_mod-eq-zero 101 refl }
 
 image_of_a_line_bundle : IsResidue 101 (class_edge line_weights (R1 1) 0 1 2) 99
-unfolding line_weights negated_inner_product gcd
-image_of_a_line_bundle = record { below = lit< tt; unit = refl; divides = dvd_of_mod-eq-zero 101 refl }
+unfolding line_weights negated_inner_product last_remainder
+image_of_a_line_bundle = record { below = lit< tt; unit = gcd_by_euclid _ _ 1 refl; divides = dvd_of_mod-eq-zero 101 refl }
 
 psi_at_the_only_mark : IsResidue 101 (vertex_fraction line_weights 0 (end_of 1 1 ∷ []) (1 ∷ [])) 2
-unfolding line_weights end_of psi_vertex gcd
-psi_at_the_only_mark = record { below = lit< tt; unit = refl; divides = dvd_of_mod-eq-zero 101 refl }
+unfolding line_weights end_of psi_vertex last_remainder
+psi_at_the_only_mark = record { below = lit< tt; unit = gcd_by_euclid _ _ 1 refl; divides = dvd_of_mod-eq-zero 101 refl }
 
 psi_above_the_dimension : IsResidue 101 (vertex_fraction line_weights 0 (end_of 1 1 ∷ []) (1 ∷ 0 ∷ [])) 0
-unfolding line_weights end_of psi_vertex gcd
-psi_above_the_dimension = record { below = lit< tt; unit = refl; divides = dvd_of_mod-eq-zero 101 refl }
+unfolding line_weights end_of psi_vertex last_remainder
+psi_above_the_dimension = record { below = lit< tt; unit = gcd_by_euclid _ _ 1 refl; divides = dvd_of_mod-eq-zero 101 refl }
 
 psi_among_three_marks : IsResidue 101 (vertex_fraction line_weights 0 (end_of 1 1 ∷ []) (1 ∷ 0 ∷ 0 ∷ [])) 50
-unfolding line_weights end_of psi_vertex tangent_product gcd
-psi_among_three_marks = record { below = lit< tt; unit = refl; divides = dvd_of_mod-eq-zero 101 refl }
+unfolding line_weights end_of psi_vertex tangent_product last_remainder
+psi_among_three_marks = record { below = lit< tt; unit = gcd_by_euclid _ _ 1 refl; divides = dvd_of_mod-eq-zero 101 refl }
 
 -- the ways to place exponents are a whole number: 6! over 1! 2! 3!
 ways : multinomial 6 (1 ∷ 2 ∷ []) ≡ 60
@@ -118,12 +119,12 @@ all_conics = refl
 
 -- with three vertices the bottom has the factor 3!, so the number 2 is bad for the modulus 9
 bad_for_nine : is_bad_number line_weights (conic_terms ∷ []) (9 ∷ []) (shape_of 1 2 0) 2 ≡ true
-unfolding is_bad_number is_bad_for conic_terms one_term to_the shape_of line_weights tree_of decoded contribution edge_top edge_bottom colour_product other_colours_product plain_vertex tangent_product negated_inner_product gcd
+unfolding is_bad_number is_bad_for conic_terms one_term to_the shape_of line_weights tree_of decoded contribution edge_top edge_bottom colour_product other_colours_product plain_vertex tangent_product negated_inner_product gcd greatest_divisor
 bad_for_nine = refl
 
 -- and no smaller number is
 good_for_nine : map (is_bad_number line_weights (conic_terms ∷ []) (9 ∷ []) (shape_of 1 2 0)) (0 ∷ 1 ∷ []) ≡ false ∷ false ∷ []
-unfolding is_bad_number is_bad_for conic_terms one_term to_the shape_of line_weights tree_of decoded contribution edge_top edge_bottom colour_product other_colours_product plain_vertex tangent_product negated_inner_product gcd
+unfolding is_bad_number is_bad_for conic_terms one_term to_the shape_of line_weights tree_of decoded contribution edge_top edge_bottom colour_product other_colours_product plain_vertex tangent_product negated_inner_product gcd greatest_divisor
 good_for_nine = refl
 
 -- ---- sums over all decorated trees

@@ -6,6 +6,7 @@ use Rattle.std.proofs.lemmas.Int.{to_z-of_z, fits_signed_from_abs}
 use Rattle.std.proofs.Math.Nat.{pow-le-pow_left}
 use Rattle.std.proofs.lemmas.List.Elements.{All-cons, All-nil}
 use Rattle.arithmetic.specs.Numbers.{gcd}
+use Rattle.arithmetic.proofs.Euclid.{last_remainder, gcd_by_euclid}
 use Rattle.trees.specs.Decorated.{TreeShape}
 use Rattle.trees.specs.Numbers.{tree_count}
 use Rattle.decorated_tree.specs.Shapes.{shape_of, within_limits}
@@ -108,8 +109,8 @@ pub second_modulus : IsModulus 1000000009
 second_modulus = record { odd = refl; at_least_3 = lit≤ tt; limited = lit≤ tt }
 
 coprime : gcd 1000000007 1000000009 ≡ 1
-unfolding gcd
-coprime = refl
+unfolding last_remainder
+coprime = gcd_by_euclid _ _ 1 refl
 
 pairwise : ArePairwiseCoprime (1000000007 ∷ 1000000009 ∷ [])
 pairwise i zero h l = absurd (omega arith)

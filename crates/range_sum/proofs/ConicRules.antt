@@ -4,6 +4,7 @@ use Rattle.std.proofs.lemmas.List.Elements.{All-nil, All-cons}
 use Rattle.trees.specs.Decorated.{TreeShape}
 use Rattle.trees.specs.Numbers.{tree_count}
 use Rattle.arithmetic.specs.Numbers.{gcd}
+use Rattle.arithmetic.proofs.Euclid.{last_remainder, gcd_by_euclid}
 use Rattle.decorated_tree.specs.Shapes.{shape_of, within_limits}
 use Rattle.residue.specs.Limits.{IsModulus, AreWeights}
 use Rattle.residue.specs.declared.class.Class.TheVariants.{Mark, Incidence, Psi}
@@ -64,8 +65,8 @@ hundred_and_one : IsModulus 101
 hundred_and_one = record { odd = refl; at_least_3 = omega arith; limited = omega arith }
 
 coprime : gcd 1000000007 101 ≡ 1
-unfolding gcd
-coprime = refl
+unfolding last_remainder
+coprime = gcd_by_euclid _ _ 1 refl
 
 pub conics_rules : (s : TreeShape) (ws : List ℤ) (ms : List ℕ) (is : List (List Term)) → s ≡ plane → within_limits plane ≡ true → tree_count plane ≤ 2 ^ 40
     → length ws ≡ 3 → AreWeights ws → ms ≡ two_moduli 101 → is ≡ conic_integrals

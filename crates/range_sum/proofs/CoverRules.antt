@@ -2,6 +2,7 @@
 use Rattle.std.proofs.Common.{◌≡◌, ℕ, ◌≤◌, ◌^◌, true, ℤ, List, [], ◌∷◌, length, refl, arith}
 use Rattle.std.proofs.lemmas.List.Elements.{All-nil, All-cons}
 use Rattle.arithmetic.specs.Numbers.{gcd}
+use Rattle.arithmetic.proofs.Euclid.{last_remainder, gcd_by_euclid}
 use Rattle.trees.specs.Decorated.{TreeShape}
 use Rattle.trees.specs.Numbers.{tree_count}
 use Rattle.decorated_tree.specs.Shapes.{shape_of, within_limits}
@@ -35,8 +36,8 @@ five : IsModulus 5
 five = record { odd = refl; at_least_3 = omega arith; limited = omega arith }
 
 coprime : gcd 1000000007 5 ≡ 1
-unfolding gcd
-coprime = refl
+unfolding last_remainder
+coprime = gcd_by_euclid _ _ 1 refl
 
 pub covers_rules : (s : TreeShape) (ws : List ℤ) (ms : List ℕ) (is : List (List Term)) → s ≡ line → within_limits line ≡ true → tree_count line ≤ 2 ^ 40
     → length ws ≡ 2 → AreWeights ws → ms ≡ two_moduli 5 → is ≡ cover_integrals
