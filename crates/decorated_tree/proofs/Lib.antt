@@ -4,8 +4,10 @@ pub mod Refusals
 pub mod Growing
 pub mod Walking
 pub mod Ranking
+pub mod BinomialRanks
 pub mod Places
 pub mod Fitting
+pub mod Members
 pub mod Counting
 pub mod NextDegrees
 pub mod FirstColour

@@ -5,8 +5,10 @@ use Rattle.std.proofs.lemmas.List.{length-replicate, get_or-replicate, set-get_o
 use Rattle.std.proofs.lemmas.List.Sums.{get_or-le-sum_by}
 use Rattle.std.proofs.Math.Seq.{set-append_seam, get_or-append_seam, drop-length}
 use Rattle.trees.proofs.AllTrees.{both}
-use Rattle.trees.specs.Numbering.{AreDegrees, choose, rank_of, lists_passed}
+use Rattle.trees.specs.Numbering.{AreDegrees, choose, rank_of}
 use Rattle.trees.proofs.DegreeRanks.{ranked}
+use Rattle.decorated_tree.specs.Ranks.{binomial_rank, lists_passed}
+use Rattle.decorated_tree.proofs.BinomialRanks.{rank_by_binomials}
 use Rattle.decorated_tree.specs.Following.{GoOn, DegreesGoOn, first_degrees}
 use Rattle.decorated_tree.proofs.Ranking.{pascal, choose_some, passed-more, degrees-cons, degree_parts, rank-cons}
 
@@ -28,7 +30,7 @@ pub first_are_degrees : (k d : ℕ) → 1 ≤ k → k ≤ d → AreDegrees k d (
 first_are_degrees zero d h l = absurd (omega arith)
 first_are_degrees (suc j) d h l = let e : j ≡ suc j - 1 = omega arith in subst (λ z. AreDegrees (suc j) d (replicate z 1 ++ (d - z) ∷ [])) e (ones_and_rest j d (omega arith))
 
-rank-ones : (j e d : ℕ) → rank_of (replicate j 1 ++ e ∷ []) d ≡ 0
+rank-ones : (j e d : ℕ) → binomial_rank (replicate j 1 ++ e ∷ []) d ≡ 0
 rank-ones zero e d = refl
 rank-ones (suc j) e d =
     let long = length-first j e in
@@ -36,7 +38,7 @@ rank-ones (suc j) e d =
     let z = rank-ones j e (d - 1) in
     omega arith
 
-pub rank-first_degrees : (k d : ℕ) → rank_of (first_degrees k d) d ≡ 0
+pub rank-first_degrees : (k d : ℕ) → binomial_rank (first_degrees k d) d ≡ 0
 rank-first_degrees k d = rank-ones (k - 1) (d - (k - 1)) d
 
 -- ---- all lists
@@ -71,7 +73,7 @@ rest_goes_on d a old new some h g =
     let less = p.less in
     let long = (g.0).long in
     let r = rank-cons d a old some in
-    let q = rank-cons d a new (omega arith) ∙ ap (λ z. lists_passed d z (a - 1) + rank_of new (d - a)) long in
+    let q = rank-cons d a new (omega arith) ∙ ap (λ z. lists_passed d z (a - 1) + binomial_rank new (d - a)) long in
     let n = g.1 in
     (degrees-cons (length old) d a new p.some (omega arith) g.0, omega arith)
 
@@ -99,12 +101,12 @@ first_goes_up d a old rest some h g more =
     let one : a + 1 - 1 ≡ a = omega arith in
     let zero_rank = rank-first_degrees k (d - (a + 1)) in
     let new_rank = rank-cons d (a + 1) (first_degrees k (d - (a + 1))) (let l = tail.long in omega arith)
-    ∙ ap (λ z. lists_passed d z (a + 1 - 1) + rank_of (first_degrees k (d - (a + 1))) (d - (a + 1))) tail.long
-    ∙ ap (λ z. lists_passed d k z + rank_of (first_degrees k (d - (a + 1))) (d - (a + 1))) one in
+    ∙ ap (λ z. lists_passed d z (a + 1 - 1) + binomial_rank (first_degrees k (d - (a + 1))) (d - (a + 1))) tail.long
+    ∙ ap (λ z. lists_passed d k z + binomial_rank (first_degrees k (d - (a + 1))) (d - (a + 1))) one in
     let old_rank = rank-cons d a old some in
     let passed = passed-more d k a positive in
     let last = g.1 in
-    subst (λ l. AreDegrees (suc k) d ((a + 1) ∷ l) × (rank_of ((a + 1) ∷ l) d ≡ rank_of (a ∷ old) d + 1)) (sym new)
+    subst (λ l. AreDegrees (suc k) d ((a + 1) ∷ l) × (binomial_rank ((a + 1) ∷ l) d ≡ binomial_rank (a ∷ old) d + 1)) (sym new)
     (degrees-cons k d (a + 1) (first_degrees k (d - (a + 1))) (omega arith) (omega arith) tail, omega arith)
 
 -- nothing is above 1 but in the first place, and all goes back
@@ -127,7 +129,7 @@ all_go_back d a old rest some h g most =
     let none = choose_none (d - a - 1) k (omega arith) in
     let last = g.1 in
     let same : suc k - 1 ≡ k = omega arith in
-    let count : rank_of (a ∷ old) d + 1 ≡ choose (d - 1) k = omega arith in
+    let count : binomial_rank (a ∷ old) d + 1 ≡ choose (d - 1) k = omega arith in
     (new, count ∙ ap (choose (d - 1)) (sym same))
 
 -- ---- the rank as a digit
@@ -137,14 +139,18 @@ rank_goes_on n d old new true least most small h g =
     let own : AreDegrees (n - 1) d new = subst (λ z. AreDegrees z d new) h.long g.0 in
     let below = (ranked n d least most small).within new own in
     let next = g.1 in
+    let new_rank = rank_by_binomials n d new least most small own in
+    let old_rank = rank_by_binomials n d old least most small h in
     (own, ((below, tt), omega arith))
 rank_goes_on n d old new false least most small h g =
     let is : new ≡ first_degrees (n - 1) d = g.0 ∙ ap (λ z. first_degrees z d) h.long in
     let own : AreDegrees (n - 1) d new = subst (AreDegrees (n - 1) d) (sym is) (first_are_degrees (n - 1) d (omega arith) (omega arith)) in
     let below = (ranked n d least most small).within new own in
-    let none : rank_of new d ≡ 0 = ap (λ l. rank_of l d) is ∙ rank-first_degrees (n - 1) d in
+    let none : binomial_rank new d ≡ 0 = ap (λ l. binomial_rank l d) is ∙ rank-first_degrees (n - 1) d in
     let same : length old - 1 ≡ n - 2 = (let l = h.long in omega arith) in
-    let last : rank_of old d + 1 ≡ choose (d - 1) (n - 2) = g.1 ∙ ap (choose (d - 1)) same in
+    let last : binomial_rank old d + 1 ≡ choose (d - 1) (n - 2) = g.1 ∙ ap (choose (d - 1)) same in
+    let new_rank = rank_by_binomials n d new least most small own in
+    let old_rank = rank_by_binomials n d old least most small h in
     (own, ((below, tt), omega arith, omega arith))
 
 -- ---- the list where only the first degree is above 1

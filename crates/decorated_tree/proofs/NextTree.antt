@@ -19,6 +19,7 @@ use Rattle.trees.proofs.NumberLaws.{tree_of_decorated, number_of-tree_of, tree_o
 use Rattle.mixed_radix.proofs.Places.{length-digits}
 use Rattle.decorated_tree.specs.declared.tree.Tree.{Tree}
 use Rattle.decorated_tree.specs.Trees.{tree_view, is_padded}
+use Rattle.decorated_tree.proofs.BinomialRanks.{rank_by_binomials}
 use Rattle.decorated_tree.specs.Following.{GoOn, DegreesGoOn, ColoursGoOn, IsTreeAfter, IsLastWithEdges, colour_bases}
 use Rattle.decorated_tree.proofs.Places.{view_of, parts_at}
 use Rattle.decorated_tree.proofs.Counting.{digits_part, go_on_after, go_on_carry}
@@ -293,7 +294,9 @@ module _ (s : TreeShape) (t : Tree) (m : ℕ) (small : s.degree < 11) (h : is_de
   none_after true ms ds cs r edges g first p q goes = tt
   none_after false ms ds cs r edges g first p q goes =
       let colours = subst (λ z. ColoursGoOn t.n s.rank z (take t.n t.colours) cs false) q (subst (λ z. ColoursGoOn t.n z edges (take t.n t.colours) cs false) p goes) in
-      record { marks = (own_marks ms false g).0.2; degrees = first.1; colours = colours.next.2 }
+      let k = has_digits s (tree_view t) small h in
+      let rank = rank_by_binomials t.n s.degree (take (t.n - 1) t.degrees) k.least k.most small k.degrees in
+      record { marks = (own_marks ms false g).0.2; degrees = ap (λ z. z + 1) rank ∙ first.1; colours = colours.next.2 }
 
 -- ---- the tree of the next number
 pub decorated_before : (s : TreeShape) (k : ℕ) (t : Tree) → s.degree < 11 → k < tree_count s → tree_view t ≡ tree_of s k → is_decorated s (tree_view t) ≡ true

@@ -5,9 +5,11 @@ use Rattle.std.proofs.lemmas.List.{length-take-le}
 use Rattle.std.proofs.lemmas.List.Sums.{sum_by-cons}
 use Rattle.std.proofs.Math.Seq.{set-append_seam}
 use Rattle.trees.specs.Padding.{padded}
-use Rattle.trees.specs.Numbering.{AreDegrees, degree_lists, choose, rank_of, lists_passed}
+use Rattle.trees.specs.Numbering.{AreDegrees, degree_lists, choose}
 use Rattle.trees.proofs.AllTrees.{both}
 use Rattle.trees.proofs.DegreeRanks.{ranked}
+use Rattle.decorated_tree.specs.Ranks.{binomial_rank, lists_passed}
+use Rattle.decorated_tree.proofs.BinomialRanks.{rank_by_binomials}
 
 -- ---- binomials
 pub pascal : (n k : ℕ) → 1 ≤ n → 1 ≤ k → choose n k ≡ choose (n - 1) (k - 1) + choose (n - 1) k
@@ -77,7 +79,7 @@ pub record IsMade (count total rank place : ℕ) (degrees : List ℕ) (left rest
   pub enough : count - place ≤ left
   pub most : left ≤ total
   pub below : rest < choose (left - 1) (count - place - 1)
-  pub lists : (tail : List ℕ) → AreDegrees (count - place) left tail → AreDegrees count total (made ++ tail) × (rank_of (made ++ tail) total + rest ≡ rank + rank_of tail left)
+  pub lists : (tail : List ℕ) → AreDegrees (count - place) left tail → AreDegrees count total (made ++ tail) × (binomial_rank (made ++ tail) total + rest ≡ rank + binomial_rank tail left)
 
 pub made_start : (count total rank : ℕ) → count ≤ total → rank < choose (total - 1) (count - 1) → IsMade count total rank 0 (replicate 10 0) total rank
 made_start count total rank h b = record {
@@ -90,9 +92,9 @@ made_start count total rank h b = record {
   lists = λ tail a. (subst (λ z. AreDegrees z total tail) (let e : count - 0 ≡ count = omega arith in e) a, omega arith);
 }
 
-rank-first : (f left k : ℕ) (tail : List ℕ) → length tail ≡ k → 1 ≤ k → rank_of (f ∷ tail) left ≡ lists_passed left k (f - 1) + rank_of tail (left - f)
+rank-first : (f left k : ℕ) (tail : List ℕ) → length tail ≡ k → 1 ≤ k → binomial_rank (f ∷ tail) left ≡ lists_passed left k (f - 1) + binomial_rank tail (left - f)
 rank-first f left k [] e h = absurd (omega arith)
-rank-first f left k (b ∷ ds) e h = ap (λ z. lists_passed left z (f - 1) + rank_of (b ∷ ds) (left - f)) e
+rank-first f left k (b ∷ ds) e h = ap (λ z. lists_passed left z (f - 1) + binomial_rank (b ∷ ds) (left - f)) e
 
 join : (a b : Bool) → a ≡ true → b ≡ true → (a && b) ≡ true
 join a b h k = grind arith
@@ -133,7 +135,7 @@ made_step count total rank place degrees left rest f others next small short les
           let same : made ++ f ∷ tail ≡ (made ++ f ∷ []) ++ tail = sym (append_assoc made (f ∷ []) tail) in
           let first = rank-first f left others tail own.long (omega arith) in
           let sums = r.1 in
-          let ranks : rank_of (made ++ f ∷ tail) total ≡ rank_of ((made ++ f ∷ []) ++ tail) total = ap (λ l. rank_of l total) same in
+          let ranks : binomial_rank (made ++ f ∷ tail) total ≡ binomial_rank ((made ++ f ∷ []) ++ tail) total = ap (λ l. binomial_rank l total) same in
           (subst (AreDegrees count total) same r.0, omega arith));
     }
 
@@ -149,9 +151,11 @@ made_end count total rank degrees left rest place some enough small is m =
     let single : AreDegrees (count - place) left (left ∷ []) = subst (λ z. AreDegrees z left (left ∷ [])) (sym one) (degrees-cons 0 left left [] (omega arith) (omega arith) (record { long = refl; positive = refl; total = zero_sum })) in
     let r = m.lists (left ∷ []) single in
     let sums = r.1 in
-    let rank_is : rank_of (made ++ left ∷ []) total ≡ rank = omega arith in
     let up : count ≡ count + 1 - 1 = omega arith in
-    let found = (ranked (count + 1) total (omega arith) (omega arith) (omega arith)).there_of (made ++ left ∷ []) (subst (λ z. AreDegrees z total (made ++ left ∷ [])) up r.0) in
+    let own : AreDegrees (count + 1 - 1) total (made ++ left ∷ []) = subst (λ z. AreDegrees z total (made ++ left ∷ [])) up r.0 in
+    let binomial : binomial_rank (made ++ left ∷ []) total ≡ rank = omega arith in
+    let rank_is = rank_by_binomials (count + 1) total (made ++ left ∷ []) (omega arith) (omega arith) (omega arith) own ∙ binomial in
+    let found = (ranked (count + 1) total (omega arith) (omega arith) (omega arith)).there_of (made ++ left ∷ []) own in
     let list : get_or (degree_lists count total) rank [] ≡ made ++ left ∷ [] = ap (λ z. get_or (degree_lists z total) rank []) up ∙ ap (λ z. get_or (degree_lists (count + 1 - 1) total) z []) (sym rank_is) ∙ found in
     let whole : length (made ++ left ∷ []) ≡ place + 1 = length-append made (left ∷ []) ∙ ap (λ z. z + 1) long in
     ap (λ l. set l place left) m.places ∙ set_next made place left long (omega arith)
@@ -200,7 +204,7 @@ degree_parts total a ds h =
     let l = sum-least ds p.1 in
     record { some = leb-true 1 a p.0; less = omega arith; rest = record { long = refl; positive = p.1; total = omega arith } }
 
-pub rank-cons : (total a : ℕ) (ds : List ℕ) → 1 ≤ length ds → rank_of (a ∷ ds) total ≡ lists_passed total (length ds) (a - 1) + rank_of ds (total - a)
+pub rank-cons : (total a : ℕ) (ds : List ℕ) → 1 ≤ length ds → binomial_rank (a ∷ ds) total ≡ lists_passed total (length ds) (a - 1) + binomial_rank ds (total - a)
 rank-cons total a ds h = rank-first a total (length ds) ds refl h
 
 pub short_tail : (xs : List ℕ) → length (take (length xs - 1) (drop 1 xs)) ≡ length xs - 1

@@ -4,6 +4,7 @@ use Rattle.trees.specs.Decorated.{TreeShape, DecoratedTree, is_decorated}
 use Rattle.trees.specs.Numbering.{AreDigits, AreDegrees, joined, product_of, choose, rank_of}
 use Rattle.trees.specs.Numbers.{number_of}
 use Rattle.trees.specs.Walks.{walk_in, coloured, digits_of}
+use Rattle.decorated_tree.specs.Ranks.{binomial_rank}
 use Rattle.decorated_tree.specs.declared.tree.Tree.{Tree}
 use Rattle.decorated_tree.specs.Trees.{tree_view, is_padded}
 
@@ -18,8 +19,8 @@ first_degrees k d = replicate (k - 1) 1 ++ (d - (k - 1)) ∷ []
 
 -- the list of degrees with the next rank, or after the last list the first one
 abbrev pub DegreesGoOn : ℕ → List ℕ → List ℕ → Bool → Type 0
-DegreesGoOn d old new true = AreDegrees (length old) d new × (rank_of new d ≡ rank_of old d + 1)
-DegreesGoOn d old new false = (new ≡ first_degrees (length old) d) × (rank_of old d + 1 ≡ choose (d - 1) (length old - 1))
+DegreesGoOn d old new true = AreDegrees (length old) d new × (binomial_rank new d ≡ binomial_rank old d + 1)
+DegreesGoOn d old new false = (new ≡ first_degrees (length old) d) × (binomial_rank old d + 1 ≡ choose (d - 1) (length old - 1))
 
 -- the bases of the digits of colours
 abbrev pub colour_bases : ℕ → ℕ → List ℕ

@@ -1,3 +1,4 @@
+pub mod Ranks
 pub mod Shapes
 pub mod NumbersFields
 pub mod ShapeFields

@@ -1,8 +1,9 @@
 //! Lists of degrees, and their ranks among all lists of so many positive numbers with the same sum.
 
 ghost use Rattle.std.specs.Prelude.{◌≡◌, ℕ, ◌+◌, ◌-◌, ◌*◌, ◌<◌, ◌≤◌, [], ◌++◌, length, get_or, replicate, List};
-ghost use Rattle.trees.specs.Numbering.{AreDegrees, choose, degree_lists, rank_of, lists_passed};
+ghost use Rattle.trees.specs.Numbering.{AreDegrees, choose, degree_lists, rank_of};
 ghost use Rattle.trees.specs.Padding.{padded};
+ghost use Rattle.decorated_tree.specs.Ranks.{binomial_rank, lists_passed};
 
 use crate::bases::choose;
 
@@ -58,16 +59,26 @@ fn first_degree(sum: u8, others: u8, rank: u64) -> First
     unreachable!()
 }
 
-/// The rank of a list of positive degrees with a sum of at most 10.
+/// The rank of a list of positive degrees with a sum of at most 10: how many lists of as many positive numbers with the
+/// same sum come before it in lexicographic order.
 pub(crate) fn rank_of(degrees: &[u8], sum: u8) -> u64
     requires most { sum ≤ 10 }
     requires degrees { AreDegrees (length degrees.now) sum degrees.now }
-    ensures value { result ≡ rank_of degrees.now sum }
+    ensures { result ≡ rank_of degrees.now sum }
+{
+    binomial_rank(degrees, sum)
+}
+
+/// The rank by binomials: the lists with a smaller first number are counted at once.
+fn binomial_rank(degrees: &[u8], sum: u8) -> u64
+    requires most { sum ≤ 10 }
+    requires degrees { AreDegrees (length degrees.now) sum degrees.now }
+    ensures value { result ≡ binomial_rank degrees.now sum }
     ensures limited { result ≤ 2560 * length degrees.now }
 {
     match degrees {
         [first, rest @ ..] if !rest.is_empty() => {
-            passed(sum, rest.len() as u8, *first - 1) + rank_of(rest, sum - *first)
+            passed(sum, rest.len() as u8, *first - 1) + binomial_rank(rest, sum - *first)
         }
         _ => 0,
     }

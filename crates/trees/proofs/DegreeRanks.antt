@@ -65,37 +65,41 @@ in_place [] d q h = absurd (omega arith)
 in_place (x ∷ xs) d zero h = here
 in_place (x ∷ xs) d (suc q) h = there (in_place xs d q (omega arith))
 
-rank_at : (lists : List (List ℕ)) (d first q : ℕ) → ranks_from lists d first ≡ true → q < length lists → rank_of (get_or lists q []) d ≡ first + q
+pub rank_at : (rank : List ℕ → ℕ → ℕ) (lists : List (List ℕ)) (d first q : ℕ) → ranks_from rank lists d first ≡ true → q < length lists
+    → rank (get_or lists q []) d ≡ first + q
 unfolding ranks_from
-rank_at [] d first q h k = absurd (omega arith)
-rank_at (ds ∷ lists) d first zero h k = let e = eqb-true (rank_of ds d) first (both (rank_of ds d == first) (ranks_from lists d (first + 1)) h).0 in omega arith
-rank_at (ds ∷ lists) d first (suc q) h k =
-    let e = rank_at lists d (first + 1) q (both (rank_of ds d == first) (ranks_from lists d (first + 1)) h).1 (omega arith) in omega arith
+rank_at rank [] d first q h k = absurd (omega arith)
+rank_at rank (ds ∷ lists) d first zero h k =
+    let e = eqb-true (rank ds d) first (both (rank ds d == first) (ranks_from rank lists d (first + 1)) h).0 in omega arith
+rank_at rank (ds ∷ lists) d first (suc q) h k =
+    let e = rank_at rank lists d (first + 1) q (both (rank ds d == first) (ranks_from rank lists d (first + 1)) h).1 (omega arith) in omega arith
 
 -- what was computed for each length and each sum
 ranks : (k d : ℕ) → k < 10 → d < 10
-    → (ranks_from (degree_lists (k + 1) (d + 1)) (d + 1) 0 ≡ true) × (length (degree_lists (k + 1) (d + 1)) ≡ choose d k)
+    → (ranks_from rank_of (degree_lists (k + 1) (d + 1)) (d + 1) 0 ≡ true) × (length (degree_lists (k + 1) (d + 1)) ≡ choose d k)
 ranks k d h j =
-    let row = each_of (λ d. list_all (λ k. ranks_from (degree_lists (k + 1) (d + 1)) (d + 1) 0 && (length (degree_lists (k + 1) (d + 1)) == choose d k)) (below 10)) (below 10) all_ranks (in_below 10 d j) in
-    let p = both _ _ (each_of (λ k. ranks_from (degree_lists (k + 1) (d + 1)) (d + 1) 0 && (length (degree_lists (k + 1) (d + 1)) == choose d k)) (below 10) row (in_below 10 k h)) in
+    let row = each_of (λ d. list_all (λ k. ranks_from rank_of (degree_lists (k + 1) (d + 1)) (d + 1) 0 && (length (degree_lists (k + 1) (d + 1)) == choose d k)) (below 10)) (below 10) all_ranks (in_below 10 d j) in
+    let p = both _ _ (each_of (λ k. ranks_from rank_of (degree_lists (k + 1) (d + 1)) (d + 1) 0 && (length (degree_lists (k + 1) (d + 1)) == choose d k)) (below 10) row (in_below 10 k h)) in
     (p.0, eqb-true (length (degree_lists (k + 1) (d + 1))) (choose d k) p.1)
 
 -- ---- lists of n - 1 degrees with the sum d
 pub record Ranks (n d : ℕ) : Type 0 where
+  pub count : length (degree_lists (n - 1) d) ≡ choose (d - 1) (n - 2)
   pub degrees : (q : ℕ) → q < choose (d - 1) (n - 2) → AreDegrees (n - 1) d (get_or (degree_lists (n - 1) d) q [])
   pub back : (q : ℕ) → q < choose (d - 1) (n - 2) → rank_of (get_or (degree_lists (n - 1) d) q []) d ≡ q
   pub within : (ds : List ℕ) → AreDegrees (n - 1) d ds → rank_of ds d < choose (d - 1) (n - 2)
   pub there_of : (ds : List ℕ) → AreDegrees (n - 1) d ds → get_or (degree_lists (n - 1) d) (rank_of ds d) [] ≡ ds
 
-of_ranks : (n d : ℕ) → (ranks_from (degree_lists (n - 1) d) d 0 ≡ true) × (length (degree_lists (n - 1) d) ≡ choose (d - 1) (n - 2)) → Ranks n d
+of_ranks : (n d : ℕ) → (ranks_from rank_of (degree_lists (n - 1) d) d 0 ≡ true) × (length (degree_lists (n - 1) d) ≡ choose (d - 1) (n - 2)) → Ranks n d
 of_ranks n d r =
     let long = r.1 in
-    let at : (q : ℕ) → q < length (degree_lists (n - 1) d) → rank_of (get_or (degree_lists (n - 1) d) q []) d ≡ q = λ q h. rank_at (degree_lists (n - 1) d) d 0 q r.0 h ∙ (omega arith) in
+    let at : (q : ℕ) → q < length (degree_lists (n - 1) d) → rank_of (get_or (degree_lists (n - 1) d) q []) d ≡ q = λ q h. rank_at rank_of (degree_lists (n - 1) d) d 0 q r.0 h ∙ (omega arith) in
     let found : (ds : List ℕ) → AreDegrees (n - 1) d ds → (rank_of ds d < length (degree_lists (n - 1) d)) × (get_or (degree_lists (n - 1) d) (rank_of ds d) [] ≡ ds) =
     λ ds h. (let p = place_in (degree_lists (n - 1) d) [] ds (in_degree_lists (n - 1) d ds h) in
     let e : p.place ≡ rank_of ds d = sym (at p.place p.within) ∙ ap (λ z. rank_of z d) p.is in
     (subst (λ z. z < length (degree_lists (n - 1) d)) e p.within, subst (λ z. get_or (degree_lists (n - 1) d) z [] ≡ ds) e p.is)) in
     record {
+      count = long;
       degrees = λ q h. are_degrees (n - 1) d (get_or (degree_lists (n - 1) d) q []) (in_place (degree_lists (n - 1) d) [] q (omega arith));
       back = λ q h. at q (omega arith);
       within = λ ds h. subst (λ z. rank_of ds d < z) long (found ds h).0;
@@ -107,5 +111,5 @@ ranked n d least most small =
     let r = ranks (n - 2) (d - 1) (omega arith) (omega arith) in
     let first : n - 2 + 1 ≡ n - 1 = omega arith in
     let second : d - 1 + 1 ≡ d = omega arith in
-    of_ranks n d (subst (λ x. (ranks_from (degree_lists (n - 1) x) x 0 ≡ true) × (length (degree_lists (n - 1) x) ≡ choose (d - 1) (n - 2))) second
-    (subst (λ x. (ranks_from (degree_lists x (d - 1 + 1)) (d - 1 + 1) 0 ≡ true) × (length (degree_lists x (d - 1 + 1)) ≡ choose (d - 1) (n - 2))) first r))
+    of_ranks n d (subst (λ x. (ranks_from rank_of (degree_lists (n - 1) x) x 0 ≡ true) × (length (degree_lists (n - 1) x) ≡ choose (d - 1) (n - 2))) second
+    (subst (λ x. (ranks_from rank_of (degree_lists x (d - 1 + 1)) (d - 1 + 1) 0 ≡ true) × (length (degree_lists x (d - 1 + 1)) ≡ choose (d - 1) (n - 2))) first r))
