@@ -7,7 +7,7 @@ ghost use Rattle.trees.specs.Numbers.{tree_count, tree_of, number_of, digits_by}
 ghost use Rattle.trees.specs.Words.{encoded};
 ghost use Rattle.decorated_tree.specs.Shapes.{within_limits};
 ghost use Rattle.decorated_tree.specs.Steps.{AreWithin};
-ghost use Rattle.decorated_tree.specs.Trees.{tree_view, is_padded, is_tree_of, fits_shape};
+ghost use Rattle.decorated_tree.specs.Trees.{IsListed, tree_view, is_padded, is_tree_of, fits_shape};
 
 use crate::numbers::Numbers;
 use crate::ranks::rank_of;
@@ -23,12 +23,15 @@ pub struct NotOfShape;
 impl Shape {
     /// The number of a tree, which is below [`Shape::count`]. It takes no memory.
     ///
+    /// Every member of the list of all decorated trees of this shape has a number, and [`Shape::tree`] gives it back.
+    ///
     /// # Errors
-    /// [`NotOfShape`] exactly where the value is not a decorated tree of this shape with 0 in the places past the used
+    /// [`NotOfShape`] if and only if the value is not a decorated tree of this shape with 0 in the entries past the used
     /// ones.
     pub fn number(&self, tree: &Tree) -> Result<u64, NotOfShape>
         ensures refused { IsErr result ↔ (is_tree_of self.now tree.now ≡ false) }
         ensures accepted { IsOk result ↔ IsTrue (is_tree_of self.now tree.now) }
+        ensures listed { IsOk result ↔ IsListed self.now tree.now }
         ensures value { IfOk result (λ k. k ≡ number_of self.now (tree_view tree.now)) }
         ensures below { IfOk result (λ k. k < tree_count self.now) }
         ensures tree { IfOk result (λ k. tree_of self.now k ≡ tree_view tree.now) }

@@ -1,6 +1,8 @@
 //! Shapes, and how many decorated trees they have.
 
-ghost use Rattle.std.specs.Prelude.{◌≡◌, ℕ, ◌+◌, ◌-◌, ◌^◌, ◌<◌, ◌≤◌, ◌↔◌, false, true, IsTrue, IfOk, IsErrOf};
+ghost use Rattle.std.specs.Prelude.{◌≡◌, ℕ, ◌+◌, ◌-◌, ◌^◌, ◌<◌, ◌≤◌, ◌↔◌, false, true, length, IsTrue, IfOk, IsErrOf};
+ghost use Rattle.trees.specs.Correspondence.{NumbersAreTrees};
+ghost use Rattle.trees.specs.Decorated.{all_trees};
 ghost use Rattle.trees.specs.Numbering.{product_of};
 ghost use Rattle.trees.specs.Numbers.{bases, tree_count, trees_from};
 ghost use Rattle.decorated_tree.specs.Shapes.{shape_of, within_limits, counts_of};
@@ -122,10 +124,16 @@ impl Shape {
         self.m
     }
 
-    /// How many decorated trees there are: the sum over n from 2 to d + 1 of
+    /// How many decorated trees there are, at most 2^40: the sum over n from 2 to d + 1 of
     /// n^(n-2) (r+1) r^(n-1) C(d-1, n-2) n^m.
+    ///
+    /// This is the length of the list of all decorated trees of this shape, and the numbers below it correspond one to
+    /// one to the members of that list: the tree of a number is in the list and has that number, and each tree of the
+    /// list has a number below the count, whose tree it is (Prüfer 1918 for the trees without decorations).
     pub fn count(&self) -> u64
         ensures value { result ≡ tree_count self.now }
+        ensures all { result ≡ length (all_trees self.now) }
+        ensures correspondence { NumbersAreTrees self.now }
         ensures limited { result ≤ 2 ^ 40 }
         ensures shape { within_limits self.now ≡ true }
     {
