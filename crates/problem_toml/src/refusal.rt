@@ -1,6 +1,6 @@
 //! The line that says why a text is refused.
 
-ghost use Rattle.std.specs.Prelude.{◌≡◌, ◌++◌, codes, decimal, map, IfOk, OnOk};
+ghost use Rattle.std.specs.Prelude.{◌≡◌, ◌++◌, codes, decimal, map, IfOk, OnOk, OnErr};
 ghost use Rattle.std.specs.Fmt.{signed_decimal};
 ghost use Rattle.problem_toml.specs.Keys.{key_of};
 ghost use Rattle.problem_toml.specs.Refusals.{place_text, modulus_text, shown_byte, shown_key, refusal_of};
@@ -146,8 +146,26 @@ fn append_bytes(line: &mut Vec<u8>, bytes: &[u8]) -> Result<(), NoMemory>
 /// Appends the number of a refusal, its name and its details, joined by single spaces, as `7 OutOfLimits top rank`.
 /// Want of memory is no refusal and appends nothing.
 ///
-/// Places are counted from 0. Of an unknown key the first 40 bytes are shown, and each byte outside 32 to 126 as `?`.
-pub fn append_refusal(line: &mut Vec<u8>, error: &ProblemError) -> Result<(), NoMemory>
+/// Indices are counted from 0. Of an unknown key the first 40 bytes are shown, and each byte outside 32 to 126 as `?`.
+///
+/// # Errors
+/// Want of memory. Then the line is as before: the whole text is made before a byte of it is appended.
+pub fn append_refusal(
+    alloc: Global,
+    line: &mut Vec<u8>,
+    error: &ProblemError,
+) -> Result<(), NoMemory>
+    ensures text { OnOk result (line.new.items ≡ line.old.items ++ refusal_of error.now) }
+    ensures kept { OnErr result (line.new.items ≡ line.old.items) }
+{
+    let mut text = Vec::new(alloc);
+    append_details(&mut text, error)?;
+    line.extend_from_slice(text.as_slice())?;
+    Ok(())
+}
+
+/// Appends what [`append_refusal`] does. After want of memory a prefix of it may stand there.
+fn append_details(line: &mut Vec<u8>, error: &ProblemError) -> Result<(), NoMemory>
     ensures { OnOk result (line.new.items ≡ line.old.items ++ refusal_of error.now) }
 {
     match error {
@@ -192,6 +210,6 @@ pub fn refusal_line(alloc: Global, error: &ProblemError) -> Result<Vec<u8>, NoMe
 {
     let mut line = Vec::new(alloc);
     append_bytes(&mut line, b"problem refused ")?;
-    append_refusal(&mut line, error)?;
+    append_details(&mut line, error)?;
     Ok(line)
 }

@@ -177,7 +177,9 @@ fn outcome(alloc: Global, text: &[u8]) -> Result<String, Fail> {
         Ok(_) => Vec::from_slice(alloc, b"read")?,
         Err(error) => {
             let mut line = Vec::new(alloc);
-            append_refusal(&mut line, &error).ok().ok_or("no memory")?;
+            append_refusal(alloc, &mut line, &error)
+                .ok()
+                .ok_or("no memory")?;
             line
         }
     };
@@ -338,7 +340,7 @@ fn prints_and_numbers_refusals(rt: HostRuntime) -> Result<(), Fail> {
     );
     assert_eq!(rt; ProblemError::TooManyTrees.number(), Some(15));
     let mut line = Vec::new(alloc);
-    assert!(rt; append_refusal(&mut line, &ProblemError::NoMemory).is_ok());
+    assert!(rt; append_refusal(alloc, &mut line, &ProblemError::NoMemory).is_ok());
     assert!(rt; line.is_empty());
     assert_eq!(rt; ProblemError::NoMemory.number(), None);
     Ok(())
