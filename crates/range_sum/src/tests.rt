@@ -157,7 +157,7 @@ fn names_the_least_bad_number(rt: HostRuntime) -> Result<(), Fail> {
         assert_eq!(rt; total.least, least, "from {first} to {end}");
     }
     assert_eq!(rt; first_bad_modulus(&problem, 0), None);
-    assert_eq!(rt; first_bad_modulus(&problem, 2), Some(1));
+    assert_eq!(rt; first_bad_modulus(&problem, 2), Some(1u8));
     assert_eq!(rt; first_bad_modulus(&problem, 119), None);
     Ok(())
 }
@@ -189,6 +189,6 @@ fn goes_on_from_block_to_block(rt: HostRuntime) -> Result<(), Fail> {
         let total = sum_range(&problem, first, end);
         assert_eq!(rt; total.least, least, "from {first} to {end}");
     }
-    assert_eq!(rt; first_bad_modulus(&problem, 116), Some(1));
+    assert_eq!(rt; first_bad_modulus(&problem, 116), Some(1u8));
     Ok(())
 }
