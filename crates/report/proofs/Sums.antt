@@ -12,8 +12,8 @@ use Rattle.report.proofs.LowestTerms.{residue_in_lowest_terms}
 use Rattle.report.proofs.Integrals.{place_within, modulus_there, integral_there, residue_there}
 
 -- sums are below their moduli
-pub reduced_from_done : (p : ProblemView) (residues : List ℕ) → places_of p ≤ length residues → IsDone p residues → AreReduced p residues
-reduced_from_done p residues h d = record { as_many = h; below = λ place l. (d.sums.each place l).below }
+pub reduced_from_done : (p : ProblemView) (residues : List ℕ) → IsDone p residues → AreReduced p residues
+reduced_from_done p residues d = record { as_many = d.sums.as_many; below = λ place l. (d.sums.each place l).below }
 
 -- the residue of the sum of the integral i modulo the modulus j
 sum_residue : (p : ProblemView) (residues : List ℕ) (i j : ℕ) → IsDone p residues → i < length p.integrals → j < length p.moduli
