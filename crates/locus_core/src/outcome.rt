@@ -19,7 +19,7 @@ pub(crate) fn outcome_report(alloc: Global, problem: &Problem) -> Result<Report,
         return done(alloc, problem, &total.sums);
     }
     match first_bad_modulus(problem, total.least) {
-        Some(place) => no_inverse(alloc, problem, total.least, place),
+        Some(place) => no_inverse(alloc, problem, total.least, place as usize),
         None => unreachable!(),
     }
 }

@@ -10,17 +10,17 @@ use crate::at_tree::contribution;
 use decorated_tree::Tree;
 use problem::Problem;
 
-/// The place of the first modulus for which the tree of the number `k` is bad: for which its contribution to some
+/// The index of the first modulus for which the tree of the number `k` is bad: for which its contribution to some
 /// integral has no residue. `None` exactly where the number is not bad. The number is below the number of decorated trees
 /// of the problem. It takes no memory.
-pub fn first_bad_modulus(problem: &Problem, k: u64) -> Option<usize>
+pub fn first_bad_modulus(problem: &Problem, k: u64) -> Option<u8>
     requires within { k < count_of (problem_view problem.now) }
     ensures none { IsNone result ↔ (is_bad_of (problem_view problem.now) k ≢ true) }
     ensures first { IfSome result (IsFirstBad (is_bad_modulo (problem_view problem.now) k) problem.now.moduli) }
 {
     let tree = problem.shape.tree(k);
-    for place in 0..problem.moduli.len() {
-        if is_bad_at(problem, &tree, place as u8) {
+    for place in 0..problem.moduli.len() as u8 {
+        if is_bad_at(problem, &tree, place) {
             return Some(place);
         }
     }
