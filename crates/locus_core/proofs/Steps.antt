@@ -11,7 +11,7 @@ use Rattle.problem_toml.specs.Reading.{reading}
 use Rattle.problem_toml.specs.declared.error.ProblemError.{ProblemError}
 use Rattle.problem_toml.specs.declared.error.ProblemError.TheVariants.{NoMemory}
 use Rattle.locus_core.specs.Words.{file_named}
-use Rattle.locus_core.specs.Outside.{Change, Unchanged, FilesState, Takes}
+use Rattle.locus_core.specs.Outside.{Unchanged, Takes}
 use Rattle.locus_core.specs.Steps.{loaded, Loads, Reports, Prints, whole, broken, Refuses, refused, unheard}
 use Rattle.locus_core.specs.Ends as ends
 use Rattle.locus_core.specs.Ends.{Run, Begins, Ends}

@@ -1,5 +1,5 @@
 -- What the statuses of a run say, and which of them must come.
-use Rattle.std.specs.Prelude.{◌≡◌, ◌⊎◌, ◌↔◌, ℕ, List, Option, Some, None, Result, Ok, Err, IsErr, IfSome}
+use Rattle.std.specs.Prelude.{◌≡◌, ◌⊎◌, ℕ, List, Option, Some, Result, Ok, IsErr, IfSome}
 use Rattle.locus_io.specs.Content.{NamedFiles, file_of}
 use Rattle.problem.specs.Rules.{ProblemView}
 use Rattle.problem.specs.Sums.{HasBadTree}

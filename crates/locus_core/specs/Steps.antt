@@ -1,6 +1,6 @@
 -- The steps of a run.
-use Rattle.std.specs.Prelude.{◌≡◌, ◌≢◌, ℕ, List, take, Option, Some, Ok, IfSome, option_map, codes}
-use Rattle.locus_io.specs.Content.{NamedFiles, file_of}
+use Rattle.std.specs.Prelude.{◌≡◌, ◌≢◌, ℕ, List, take, Some, Ok, IfSome, option_map, codes}
+use Rattle.locus_io.specs.Content.{file_of}
 use Rattle.problem.specs.Rules.{ProblemView}
 use Rattle.report.specs.Report.{IsReport}
 use Rattle.problem_toml.specs.Reading.{reading}

@@ -1,11 +1,10 @@
 -- The fraction that is found for an integral is its sum, where that lies within the bounds.
-use Rattle.std.proofs.Common.{ℕ, ◌+◌, ◌*◌, ◌<◌, ◌≤◌, List, [], length, slice_index, get_or, Option, sym, subst}
+use Rattle.std.proofs.Common.{ℕ, ◌+◌, ◌*◌, ◌<◌, List, [], length, slice_index, get_or, Option, sym, subst}
 use Rattle.arithmetic.specs.Fractions.{IsResidue}
 use Rattle.localisation.specs.Agreement.{modulus_at, integral_at}
 use Rattle.localisation.specs.Contribution.{kontsevich_sum}
 use Rattle.recover_fraction.specs.declared.recovery.Fraction.{Fraction}
 use Rattle.problem.specs.Rules.{ProblemView}
-use Rattle.problem.specs.Sums.{places_of}
 use Rattle.report.specs.Outcome.{IsDone}
 use Rattle.report.specs.Fractions.{residues_of, AreReduced, AreFractions, FindSums}
 use Rattle.report.proofs.LowestTerms.{residue_in_lowest_terms}
