@@ -1,6 +1,6 @@
 //! The top call.
 
-ghost use Rattle.std.specs.Prelude.{◌≡◌, ◌≢◌, ◌↔◌, ◌⊎◌, map, string_bytes, None, Err, IfOk, IfErr, IfSome, IsErr};
+ghost use Rattle.std.specs.Prelude.{◌≡◌, ◌≢◌, ◌↔◌, ◌⊎◌, codes, map, string_bytes, None, Err, IfOk, IfErr, IfSome, IsErr};
 ghost use Rattle.locus_io.specs.Causes.{Rose};
 ghost use Rattle.problem.specs.Sums.{HasBadTree};
 ghost use Rattle.problem_toml.specs.Reading.{reading};
@@ -13,7 +13,7 @@ ghost use Rattle.locus_core.specs.Statuses.{IsSumStatus, IsReadStatus, IsStatus,
 
 use crate::outcome::outcome_report;
 use crate::words::file_name;
-use locus_io::{Failed, Files, LoadError, Sink, put_all};
+use locus_io::{Failed, Files, LoadError, Sink, WordsError, put_all};
 use problem_toml::{ProblemError, read, refusal_line};
 use report::Report;
 use residue::NoMemory;
@@ -77,7 +77,20 @@ pub fn locus<F: Files, O: Sink, E: Sink>(
     end(alloc, words, files, out, err)
 }
 
-/// Does it, and ends in one of the ways.
+/// Ends a run whose words were not read: words that are no text are refused.
+pub fn refuse_words<E: Sink>(err: &mut E, error: WordsError) -> Answer
+    ensures not_text { error ≡ WordsError.NotText → (result.status ≡ 2)
+        × Tells (sink_change E.written E.is_flushed E.faults err.old err.new) (codes "words refused\n") }
+    ensures no_memory { error ≡ WordsError.NoMemory → (result.status ≡ 9)
+        × Tells (sink_change E.written E.is_flushed E.faults err.old err.new) (codes "want of memory\n") }
+{
+    match error {
+        WordsError::NotText => refuse(err, 2, b"words refused\n"),
+        WordsError::NoMemory => refuse(err, 9, b"want of memory\n"),
+    }
+}
+
+/// Does all that `locus` does, and ends in one of the ways.
 fn end<F: Files, O: Sink, E: Sink>(
     alloc: Global,
     words: &[String],
