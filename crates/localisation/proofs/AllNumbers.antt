@@ -12,7 +12,7 @@ use Rattle.trees.specs.Numbers.{tree_count, tree_of, number_of, numbered_trees}
 use Rattle.trees.proofs.AllTrees.{is_in_all_trees}
 use Rattle.trees.proofs.NumberLaws.{all_numbered, numbered_below, tree_of_in_all_trees, number_of_below, tree_of-number_of}
 use Rattle.localisation.specs.Contribution.{contribution, sum_over, kontsevich_sum, partial_sum}
-use Rattle.localisation.specs.Agreement.{is_bad_for, is_bad_number, NoneBad, AreResiduesOf}
+use Rattle.localisation.specs.Agreement.{is_bad_tree, is_bad_number, NoneBad, AreResiduesOf}
 
 -- ---- sums
 -- the partial sum over all numbers and Kontsevich's sum are the same fraction, also before it is reduced
@@ -36,13 +36,9 @@ residue_from_all ws s terms m x small h = subst (λ f. IsResidue m f x) (sym (pa
 -- residues of all integrals modulo all moduli, place by place
 pub residues_of_all : (ws : List ℤ) (s : TreeShape) (ms : List ℕ) (integrals : List (List Term)) (xs : List ℕ) → s.degree < 11
     → AreResiduesOf ms integrals (partial_sum ws s 0 (tree_count s)) xs → AreResiduesOf ms integrals (kontsevich_sum ws s) xs
-residues_of_all ws s ms integrals xs small h = record { each = λ place k. residue_of_all ws s _ _ _ small (h.each place k) }
+residues_of_all ws s ms integrals xs small h = record { as_many = h.as_many; each = λ place k. residue_of_all ws s _ _ _ small (h.each place k) }
 
 -- ---- bad numbers and bad trees
--- a tree is bad where it is bad for some modulus
-abbrev pub is_bad_tree : List ℤ → List (List Term) → List ℕ → DecoratedTree → Bool
-is_bad_tree ws integrals ms g = list_any (is_bad_for ws integrals g) ms
-
 -- the tree of a bad number is a decorated tree that is bad
 pub bad_tree_of : (ws : List ℤ) (integrals : List (List Term)) (ms : List ℕ) (s : TreeShape) (k : ℕ) → s.degree < 11 → k < tree_count s
     → is_bad_number ws integrals ms s k ≡ true → IsIn (tree_of s k) (all_trees s) × (is_bad_tree ws integrals ms (tree_of s k) ≡ true)

@@ -17,9 +17,13 @@ lacks_residue m f = not (gcd (nat_abs f.bottom) m == 1)
 unfoldable pub is_bad_for : List ℤ → List (List Term) → DecoratedTree → ℕ → Bool
 is_bad_for ws integrals g m = list_any (λ terms. lacks_residue m (contribution ws terms g)) integrals
 
--- a number is bad where its tree is bad for some modulus
+-- a tree is bad where it is bad for some modulus
+abbrev pub is_bad_tree : List ℤ → List (List Term) → List ℕ → DecoratedTree → Bool
+is_bad_tree ws integrals ms g = list_any (is_bad_for ws integrals g) ms
+
+-- a number is bad where its tree is bad
 unfoldable pub is_bad_number : List ℤ → List (List Term) → List ℕ → TreeShape → ℕ → Bool
-is_bad_number ws integrals ms shape k = list_any (is_bad_for ws integrals (tree_of shape k)) ms
+is_bad_number ws integrals ms shape k = is_bad_tree ws integrals ms (tree_of shape k)
 
 -- k is the least bad number from lo on and below hi
 pub record IsLeastBad (bad : ℕ → Bool) (lo hi k : ℕ) : Type 0 where
@@ -46,8 +50,10 @@ modulus_at ms place = slice_index ms (place % length ms)
 abbrev pub integral_at : List ℕ → List (List Term) → ℕ → List Term
 integral_at ms integrals place = get_or integrals (place / length ms) []
 
--- each number is the residue of the fraction of its integral modulo its modulus
+-- there is a number for each integral and modulus, and each is the residue of the fraction of its integral modulo its
+-- modulus
 pub record AreResiduesOf (ms : List ℕ) (integrals : List (List Term)) (fraction_of : List Term → Fraction) (xs : List ℕ) : Type 0 where
+  pub as_many : length integrals * length ms ≤ length xs
   pub each : (place : ℕ) → place < length integrals * length ms
       → IsResidue (modulus_at ms place) (fraction_of (integral_at ms integrals place)) (slice_index xs place)
 

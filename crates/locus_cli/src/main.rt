@@ -1,17 +1,19 @@
-//! The program `locus`: the top call over the files, the output and the standard error of the host.
+//! The program `locus`: the top call over the words, the files, the output and the standard error of the host.
 #![tactic(auto)]
 
-use locus_core::locus;
-use locus_io::{HostErr, HostFiles, HostOut};
+use locus_core::{locus, refuse_words};
+use locus_io::{HostErr, HostFiles, HostOut, host_words};
 use std::process::ExitCode;
-use std::{env, io};
 
-fn main(rt: HostRuntime) -> io::Result<ExitCode> {
+fn main(rt: HostRuntime) -> ExitCode {
     let alloc = rt.alloc();
-    let words: Vec<String> = env::args(&rt)?.collect(alloc)?;
+    let words = host_words(&rt);
     let mut out = HostOut::new(rt.stdout());
     let mut err = HostErr::new(rt.stderr());
     let mut files = HostFiles::new(rt);
-    let answer = locus(alloc, words.as_slice(), &mut files, &mut out, &mut err);
-    Ok(ExitCode::from(answer.status))
+    let answer = match words {
+        Ok(words) => locus(alloc, words.as_slice(), &mut files, &mut out, &mut err),
+        Err(error) => refuse_words(&mut err, error),
+    };
+    ExitCode::from(answer.status)
 }

@@ -1,3 +1,6 @@
 pub mod Words
 pub mod Texts
-pub mod Run
+pub mod Outside
+pub mod Ends
+pub mod Steps
+pub mod Statuses

@@ -5,7 +5,7 @@ mod outcome;
 mod top;
 mod words;
 
-pub use top::{Answer, locus};
+pub use top::{Answer, locus, refuse_words};
 
 #[cfg(test)]
 mod tests;

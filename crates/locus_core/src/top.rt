@@ -1,18 +1,19 @@
 //! The top call.
 
-ghost use Rattle.std.specs.Prelude.{◌≡◌, ◌≢◌, ◌↔◌, ◌⊎◌, codes, map, string_bytes, option_map, Option, Some, None, Ok, Err, IfOk, IfErr, IfSome, IsOk};
-ghost use Rattle.locus_io.specs.Causes.{Rose, RoseBy, Stayed};
-ghost use Rattle.locus_io.specs.Content.{file_of, Appends, AppendsFront};
-ghost use Rattle.problem.specs.Problems.{view as problem_view};
+ghost use Rattle.std.specs.Prelude.{◌≡◌, ◌≢◌, ◌↔◌, ◌⊎◌, codes, map, string_bytes, None, Err, IfOk, IfErr, IfSome, IsErr};
+ghost use Rattle.locus_io.specs.Causes.{Rose};
+ghost use Rattle.problem.specs.Sums.{HasBadTree};
 ghost use Rattle.problem_toml.specs.Reading.{reading};
-ghost use Rattle.report.specs.Report.{IsReport};
 ghost use Rattle.locus_core.specs.Words.{file_named};
 ghost use Rattle.locus_core.specs.Texts.{refused_line};
-ghost use Rattle.locus_core.specs.Run.{IsDoneStatus, IsSumStatus, IsStatus, input_of, loaded, ForProblem, ForRefusal, PrintsResidues, PrintsFractions, HasBadTree, NamesLeastBad, PrintsFront, WritesLine};
+ghost use Rattle.locus_core.specs.Outside.{Unchanged, files_change, sink_change, HasFaultAt, Tells};
+ghost use Rattle.locus_core.specs.Steps.{Loads, Reports, Prints, Refuses};
+ghost use Rattle.locus_core.specs.Ends.{Ends};
+ghost use Rattle.locus_core.specs.Statuses.{IsSumStatus, IsReadStatus, IsStatus, ForFile, Reads, IsProblem, IsStatusOf};
 
 use crate::outcome::outcome_report;
 use crate::words::file_name;
-use locus_io::{Failed, Files, LoadError, Sink, put_all};
+use locus_io::{Failed, Files, LoadError, Sink, WordsError, put_all};
 use problem_toml::{ProblemError, read, refusal_line};
 use report::Report;
 use residue::NoMemory;
@@ -24,7 +25,7 @@ const MOST_LOADED: u64 = 1_048_577;
 /// How a run ended.
 #[derive(Clone, Copy, Debug, PartialEq, Eq, Drop)]
 pub struct Answer {
-    /// The exit status: 0 done with a fraction for each integral, 1 done where some integral has none, 2 words refused,
+    /// The exit status: 0 done with a fraction for each integral, 1 done without one for some integral, 2 words refused,
     /// 3 problem refused, 4 no inverse, 6 read fault, 7 write fault, 9 want of memory.
     pub status: u8,
 }
@@ -32,7 +33,7 @@ pub struct Answer {
 /// Does all that the program does: it reads the words, loads and reads the problem, sums the contributions of all
 /// decorated trees, and writes what is printed. The whole text is made before its first byte is written.
 ///
-/// Clauses on a file hold where `files` tells what it holds, and those on written bytes where the sink tells them.
+/// What is said of a file holds if `files` tells what it holds, and what is said of written bytes if the sink tells them.
 pub fn locus<F: Files, O: Sink, E: Sink>(
     alloc: Global,
     words: &[String],
@@ -40,60 +41,69 @@ pub fn locus<F: Files, O: Sink, E: Sink>(
     out: &mut O,
     err: &mut E,
 ) -> Answer
+    // How a run ends: the ways that there are, each with its status and with all that is then known of the words, of the
+    // file and of what was written. The clauses below follow from this one.
+    ensures ends { Ends (record {
+      words = map string_bytes words.now;
+      files = files_change F.content F.faults F.last_fault files.old files.new;
+      out = sink_change O.written O.is_flushed O.faults out.old out.new;
+      err = sink_change E.written E.is_flushed E.faults err.old err.new;
+    }) result.status }
+
     // No other status comes. Status 9 is want of memory, and no clause says when memory is refused.
     ensures known { IsStatus result.status }
 
-    // Status 2 comes exactly where the words are not any first word, `run` and the name of a file.
+    // Status 2 comes exactly if the words are not any first word, `run` and the name of a file.
     ensures words { (result.status ≡ 2) ↔ (file_named (map string_bytes words.now) ≡ None) }
 
-    // Status 3 comes only where the bytes of the file are no problem, and the line tells the first rule that they
-    // break. Statuses 0, 1, 4 and 7 come only where they are one.
-    ensures refused { result.status ≡ 3 → ForRefusal (F.content files.old) (map string_bytes words.now)
-        (λ error. WritesLine (E.written err.old) (E.written err.new) (E.faults err.old) (E.faults err.new) (refused_line error)) }
-    ensures accepted { IsSumStatus result.status ⊎ (result.status ≡ 7) →
-        IfSome (input_of (F.content files.old) (map string_bytes words.now)) (λ bytes. IsOk (reading bytes)) }
+    // If the file was read, then it is there, and status 3 comes exactly if its bytes write no problem.
+    ensures refused { IsReadStatus result.status → ForFile (F.content files.old) (map string_bytes words.now)
+        (Reads (λ read. (result.status ≡ 3) ↔ IsErr read)) }
 
-    // At status 0 and 1 each printed residue is the residue of its integral's Kontsevich sum over all decorated trees,
-    // those of n vertices divided by n!.
-    ensures residues { IsDoneStatus result.status → ForProblem (F.content files.old) (map string_bytes words.now)
-        (PrintsResidues (O.written out.old) (O.written out.new)) }
+    // If the text of a sum was printed, its bytes write one, and status 4 comes exactly if some decorated tree is bad.
+    ensures bad { IsSumStatus result.status → ForFile (F.content files.old) (map string_bytes words.now)
+        (Reads (IsProblem (λ problem. (result.status ≡ 4) ↔ HasBadTree problem))) }
 
-    // At status 0 and 1 the pair printed for an integral is its agreeing pair, and no other pair agrees with it. Status
-    // 1 comes exactly where the sum is done and no pair agrees with some integral. Where the sum of an integral in
-    // lowest terms lies within the bounds, the fraction printed for it is that sum.
-    ensures fraction { IsDoneStatus result.status → ForProblem (F.content files.old) (map string_bytes words.now)
-        (PrintsFractions result.status (O.written out.old) (O.written out.new)) }
+    // If the file is not there, the run ends with a read fault, but for want of memory.
+    ensures absent { ForFile (F.content files.old) (map string_bytes words.now)
+        (λ found. found ≡ None → (result.status ≡ 6) ⊎ (result.status ≡ 9)) }
 
-    // Of the statuses 0, 1 and 4, 4 comes exactly where some tree has no inverse. Then the least such tree is named, with
-    // the first modulus for which it has none.
-    ensures bad { IsSumStatus result.status → ForProblem (F.content files.old) (map string_bytes words.now)
-        (λ p. (result.status ≡ 4) ↔ HasBadTree p) }
-    ensures refusal { result.status ≡ 4 → ForProblem (F.content files.old) (map string_bytes words.now)
-        (NamesLeastBad (O.written out.old) (O.written out.new)) }
+    // If the file is there, and neither the files nor the output count a fault, the bytes of the file decide the status,
+    // but for want of memory.
+    ensures decided { ¬ Rose (F.faults files.old) (F.faults files.new) → ¬ Rose (O.faults out.old) (O.faults out.new)
+        → ForFile (F.content files.old) (map string_bytes words.now)
+        (λ found. IfSome found (λ bytes. IsStatusOf bytes result.status ⊎ (result.status ≡ 9))) }
+{
+    end(alloc, words, files, out, err)
+}
 
-    // Status 6 comes only where the files counted a fault at the name of the words, and status 7 only where the
-    // output counted one; a front of the text was then written.
-    ensures read_fault { result.status ≡ 6 → IfSome (file_named (map string_bytes words.now))
-        (λ name. RoseBy (F.faults files.old) (F.faults files.new) name (F.last_fault files.new)) }
-    ensures read_kept { result.status ≢ 6 →
-        Stayed (F.faults files.old) (F.faults files.new) (F.last_fault files.old) (F.last_fault files.new) }
-    ensures write_fault { result.status ≡ 7 → Rose (O.faults out.old) (O.faults out.new) }
-    ensures front { result.status ≡ 7 → ForProblem (F.content files.old) (map string_bytes words.now)
-        (PrintsFront (O.written out.old) (O.written out.new)) }
-    ensures write_kept { result.status ≢ 7 → O.faults out.new ≡ O.faults out.old }
+/// Ends a run whose words were not read: words that are no text are refused.
+pub fn refuse_words<E: Sink>(err: &mut E, error: WordsError) -> Answer
+    ensures not_text { error ≡ WordsError.NotText → (result.status ≡ 2)
+        × Tells (sink_change E.written E.is_flushed E.faults err.old err.new) (codes "words refused\n") }
+    ensures no_memory { error ≡ WordsError.NoMemory → (result.status ≡ 9)
+        × Tells (sink_change E.written E.is_flushed E.faults err.old err.new) (codes "want of memory\n") }
+{
+    match error {
+        WordsError::NotText => refuse(err, 2, b"words refused\n"),
+        WordsError::NoMemory => refuse(err, 9, b"want of memory\n"),
+    }
+}
 
-    // Nothing goes to the output where something is refused, and nothing to standard error where it is not.
-    ensures out_kept { (result.status ≡ 2) ⊎ (result.status ≡ 3) ⊎ (result.status ≡ 6) ⊎ (result.status ≡ 9) →
-        O.written out.new ≡ O.written out.old }
-    ensures err_kept { IsSumStatus result.status → E.written err.new ≡ E.written err.old }
-    ensures words_line { result.status ≡ 2 →
-        WritesLine (E.written err.old) (E.written err.new) (E.faults err.old) (E.faults err.new) (codes "words refused\n") }
-    ensures read_line { result.status ≡ 6 →
-        WritesLine (E.written err.old) (E.written err.new) (E.faults err.old) (E.faults err.new) (codes "read fault\n") }
-    ensures write_line { result.status ≡ 7 →
-        WritesLine (E.written err.old) (E.written err.new) (E.faults err.old) (E.faults err.new) (codes "write fault\n") }
-    ensures memory_line { result.status ≡ 9 →
-        WritesLine (E.written err.old) (E.written err.new) (E.faults err.old) (E.faults err.new) (codes "want of memory\n") }
+/// Does all that `locus` does, and ends in one of the ways.
+fn end<F: Files, O: Sink, E: Sink>(
+    alloc: Global,
+    words: &[String],
+    files: &mut F,
+    out: &mut O,
+    err: &mut E,
+) -> Answer
+    ensures { Ends (record {
+      words = map string_bytes words.now;
+      files = files_change F.content F.faults F.last_fault files.old files.new;
+      out = sink_change O.written O.is_flushed O.faults out.old out.new;
+      err = sink_change E.written E.is_flushed E.faults err.old err.new;
+    }) result.status }
 {
     let Some(name) = file_name(words) else {
         return refuse(err, 2, b"words refused\n");
@@ -111,23 +121,21 @@ pub fn locus<F: Files, O: Sink, E: Sink>(
 
 /// Reads the problem of a text, and makes the report of its sum.
 fn run(alloc: Global, text: &[u8]) -> Result<Report, ProblemError>
-    ensures ok { IfOk result (λ report. IfOk (reading text.now) (λ p. IsReport p report.status report.text.items)) }
-    ensures accepted { IfOk result (λ report. IsOk (reading text.now)) }
-    ensures status { IfOk result (λ report. IsSumStatus report.status) }
+    ensures ok { IfOk result (λ report. Reports text.now report.status report.text.items) }
     ensures err { IfErr result (λ error. error ≢ ProblemError.NoMemory → reading text.now ≡ Err error) }
 {
     let problem = read(alloc, text)?;
     Ok(outcome_report(alloc, &problem)?)
 }
 
-#[tactic(auto, unfolding(crate::specs::Run::loaded))]
+#[tactic(auto, unfolding(crate::specs::Steps::loaded))]
 fn load<F: Files>(alloc: Global, files: &mut F, name: &str) -> Result<Vec<u8>, LoadError>
-    ensures found { IfOk result (λ bytes. IfSome (F.content files.old) (λ told.
-        option_map loaded (file_of name.now told) ≡ Some bytes.items)) }
+    ensures found { IfOk result (λ bytes.
+        Loads (files_change F.content F.faults F.last_fault files.old files.new) name.now bytes.items) }
     ensures failed { result ≡ Err LoadError.Failed →
-        RoseBy (F.faults files.old) (F.faults files.new) name.now (F.last_fault files.new) }
-    ensures kept { result ≢ Err LoadError.Failed →
-        Stayed (F.faults files.old) (F.faults files.new) (F.last_fault files.old) (F.last_fault files.new) }
+        HasFaultAt (files_change F.content F.faults F.last_fault files.old files.new) name.now }
+    ensures unchanged { result ≢ Err LoadError.Failed →
+        Unchanged (files_change F.content F.faults F.last_fault files.old files.new) }
 {
     files.load(alloc, name, MOST_LOADED)
 }
@@ -135,7 +143,7 @@ fn load<F: Files>(alloc: Global, files: &mut F, name: &str) -> Result<Vec<u8>, L
 /// Ends a run with a line on standard error. A fault there changes nothing.
 fn refuse<E: Sink>(err: &mut E, status: u8, line: &[u8]) -> Answer
     ensures status { result.status ≡ status }
-    ensures line { WritesLine (E.written err.old) (E.written err.new) (E.faults err.old) (E.faults err.new) line.now }
+    ensures line { Tells (sink_change E.written E.is_flushed E.faults err.old err.new) line.now }
 {
     let _ = put_all(err, line);
     Answer { status }
@@ -143,12 +151,7 @@ fn refuse<E: Sink>(err: &mut E, status: u8, line: &[u8]) -> Answer
 
 /// Ends a run whose problem is refused.
 fn refuse_problem<E: Sink>(alloc: Global, err: &mut E, error: &ProblemError) -> Answer
-    ensures status { (result.status ≡ 3) ⊎ (result.status ≡ 9) }
-    ensures memory { error.now ≡ ProblemError.NoMemory → result.status ≡ 9 }
-    ensures line { result.status ≡ 3 →
-        WritesLine (E.written err.old) (E.written err.new) (E.faults err.old) (E.faults err.new) (refused_line error.now) }
-    ensures memory_line { result.status ≡ 9 →
-        WritesLine (E.written err.old) (E.written err.new) (E.faults err.old) (E.faults err.new) (codes "want of memory\n") }
+    ensures { Refuses error.now (sink_change E.written E.is_flushed E.faults err.old err.new) result.status }
 {
     if let ProblemError::NoMemory = error {
         return refuse(err, 9, b"want of memory\n");
@@ -168,15 +171,10 @@ fn whole_line(alloc: Global, error: &ProblemError) -> Result<Vec<u8>, NoMemory>
     Ok(line)
 }
 
-/// Writes the text of a report, and ends the run with its status where that passes.
+/// Writes the text of a report, and ends the run with its status if that passes.
 fn print<O: Sink, E: Sink>(out: &mut O, err: &mut E, report: Report) -> Answer
-    requires { IsSumStatus report.status }
-    ensures done { result.status ≢ 7 → (result.status ≡ report.status)
-        × Appends (O.written out.old) (O.written out.new) report.text.items
-        × (O.faults out.new ≡ O.faults out.old) × (E.written err.new ≡ E.written err.old) }
-    ensures fault { (result.status ≡ 7) → (Rose (O.faults out.old) (O.faults out.new))
-        × AppendsFront (O.written out.old) (O.written out.new) report.text.items
-        × WritesLine (E.written err.old) (E.written err.new) (E.faults err.old) (E.faults err.new) (codes "write fault\n") }
+    ensures { Prints (sink_change O.written O.is_flushed O.faults out.old out.new)
+        (sink_change E.written E.is_flushed E.faults err.old err.new) report.status report.text.items result.status }
 {
     match put_all(out, report.text.as_slice()) {
         Ok(()) => Answer {

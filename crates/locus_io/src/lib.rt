@@ -10,12 +10,14 @@ mod memory;
 mod outside;
 mod put;
 mod sure;
+mod words;
 
 pub use host::{HostErr, HostFiles, HostOut, HostSink};
 pub use memory::{MemoryFiles, MemorySink};
 pub use outside::{Failed, Files, LoadError, Sink};
 pub use put::put_all;
 pub use sure::{SureFiles, SureSink};
+pub use words::{WordsError, host_words};
 
 #[cfg(test)]
 mod tests;

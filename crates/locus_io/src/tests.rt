@@ -1,9 +1,11 @@
 use crate::{
     Files, HostErr, HostFiles, HostOut, HostSink, LoadError, MemoryFiles, MemorySink, Sink,
-    SureFiles, SureSink, put_all,
+    SureFiles, SureSink, WordsError, host_words, put_all,
 };
 use std::alloc::Global;
+use std::env::FillError;
 use std::fs::OpenOptions;
+use std::rt::Env;
 use std::test::Fail;
 
 // Two files of one name, of which the first counts, and an empty one.
@@ -113,4 +115,40 @@ fn host_out_writes_and_a_full_device_is_a_fault(rt: HostRuntime) -> Result<(), F
 fn host_err_writes(rt: HostRuntime) {
     let mut err = HostErr::new(rt.stderr());
     assert_eq!(rt; put_all(&mut err, b"one line\n"), Ok(()));
+}
+
+// An environment whose arguments are these, and which has no variables.
+#[derive(Drop)]
+struct Arguments(&'static [&'static [u8]]);
+
+impl Env for Arguments {
+    fn arg(&self, i: usize, buf: &mut [u8]) -> Result<usize, FillError> {
+        let Some(word) = self.0.get(i) else {
+            return Err(FillError::NotPresent);
+        };
+        let Some(front) = buf.get_mut(..word.len()) else {
+            return Err(FillError::TooLong);
+        };
+        front.copy_from_slice(word);
+        Ok(word.len())
+    }
+
+    fn var(&self, _name: &str, _buf: &mut [u8]) -> Result<usize, FillError> {
+        Err(FillError::NotPresent)
+    }
+
+    fn var_at(&self, _i: usize, _buf: &mut [u8]) -> Result<usize, FillError> {
+        Err(FillError::NotPresent)
+    }
+}
+
+#[test]
+fn words_that_are_no_text_are_refused(rt: HostRuntime) -> Result<(), Fail> {
+    let words = host_words(&(Arguments(&[b"locus", b"run", b"f"]), rt.alloc()));
+    let words = words.ok().ok_or("no words")?;
+    assert_eq!(rt; words.len(), 3);
+    assert_eq!(rt; words[1].as_str(), "run");
+    let refused = host_words(&(Arguments(&[b"locus", b"run", b"f\xff"]), rt.alloc()));
+    assert_eq!(rt; refused.err(), Some(WordsError::NotText));
+    Ok(())
 }

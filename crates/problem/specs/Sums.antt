@@ -1,8 +1,10 @@
 -- What the trees of a problem sum to.
-use Rattle.std.specs.Prelude.{◌≡◌, ℕ, ◌*◌, ◌≤◌, Bool, List, length, slice_index}
+use Rattle.std.specs.Prelude.{◌≡◌, ℕ, ◌*◌, ◌≤◌, Bool, true, List, length, slice_index}
+use Rattle.trees.specs.Decorated.{DecoratedTree, all_trees}
+use Rattle.trees.specs.Members.{IsIn}
 use Rattle.trees.specs.Numbers.{tree_count, tree_of}
 use Rattle.localisation.specs.Contribution.{partial_sum, kontsevich_sum}
-use Rattle.localisation.specs.Agreement.{is_bad_for, is_bad_number, AreResiduesOf}
+use Rattle.localisation.specs.Agreement.{is_bad_for, is_bad_tree, is_bad_number, AreResiduesOf}
 use Rattle.problem.specs.Rules.{ProblemView}
 
 -- how many decorated trees a problem has
@@ -12,6 +14,14 @@ count_of p = tree_count p.shape
 -- whether the tree of a number is bad for a modulus
 abbrev pub is_bad_modulo : ProblemView → ℕ → ℕ → Bool
 is_bad_modulo p k = is_bad_for p.weights p.integrals (tree_of p.shape k)
+
+-- whether a decorated tree is bad for some modulus of the problem
+abbrev pub is_bad_tree_of : ProblemView → DecoratedTree → Bool
+is_bad_tree_of p = is_bad_tree p.weights p.integrals p.moduli
+
+-- some decorated tree is bad
+abbrev pub HasBadTree : ProblemView → Type 0
+HasBadTree p = (g : DecoratedTree) × IsIn g (all_trees p.shape) × (is_bad_tree_of p g ≡ true)
 
 -- whether the tree of a number is bad for some modulus of the problem
 abbrev pub is_bad_of : ProblemView → ℕ → Bool

@@ -1,5 +1,5 @@
 -- The sum over a block of numbers, as one fraction.
-use Rattle.std.proofs.Common.{◌≡◌, ℕ, zero, suc, ◌+◌, ◌-◌, ◌<◌, ◌≤◌, Bool, true, false, List, replicate, slice_index, ℤ, pos, nat_abs, refl, sym, ap, ◌∙◌, subst, arith}
+use Rattle.std.proofs.Common.{◌≡◌, ℕ, zero, suc, ◌+◌, ◌-◌, ◌<◌, ◌≤◌, Bool, true, false, List, length, replicate, slice_index, ℤ, pos, nat_abs, refl, sym, ap, ◌∙◌, subst, arith}
 use Rattle.std.proofs.lemmas.List.{get_or-replicate}
 use Rattle.std.proofs.Math.Nat.{mod-eq_of_lt}
 use Rattle.arithmetic.specs.Numbers.{gcd}
@@ -18,7 +18,7 @@ use Rattle.problem.specs.declared.problem.Problem.{Problem}
 use Rattle.problem.specs.Problems.{view}
 use Rattle.problem.specs.Sums.{is_bad_of, places_of, ArePartialSums}
 use Rattle.range_sum.specs.Totals.{ratio_at, AddsFraction, AddsResidue, AreRatiosOf}
-use Rattle.range_sum.proofs.Places.{has_unit, unit_unless, nowhere_bad, bad_at_place, is_bad_at, within_64}
+use Rattle.range_sum.proofs.Places.{has_unit, unit_unless, nowhere_bad, bad_at_place, is_bad_at, at_most_64, within_64}
 use Rattle.range_sum.proofs.RangeLaws.{modulus_above}
 
 -- ---- the bottom of a partial sum is a unit exactly where the bottoms of its contributions are
@@ -119,11 +119,13 @@ ratios_more p start k g old new from e ratios added = record {
 }
 
 -- ---- the sums of a range and of the block that follows
-pub sums_more : (p : Problem) (first start stop : ℕ) (old new : List ℕ) → first ≤ start → start ≤ stop → ArePartialSums (view p) first start old
+pub sums_more : (p : Problem) (first start stop : ℕ) (old new : List ℕ) → first ≤ start → start ≤ stop → length new ≡ 64
+    → ArePartialSums (view p) first start old
     → ((place : ℕ) → place < places_of (view p) → AddsResidue (modulus_at p.moduli place)
     (partial_sum p.setup p.shape start stop (integral_at p.moduli p.integrals place)) (slice_index old place) (slice_index new place))
     → ArePartialSums (view p) first stop new
-sums_more p first start stop old new from order sums added = record {
+sums_more p first start stop old new from order long sums added = record {
+  as_many = let most = at_most_64 p in omega arith;
   each = λ place within.
       let m = modulus_at p.moduli place in
       let terms = integral_at p.moduli p.integrals place in

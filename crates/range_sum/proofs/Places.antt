@@ -22,8 +22,11 @@ use Rattle.problem.specs.declared.problem.Problem.{Problem}
 use Rattle.range_sum.specs.Totals.{ratio_at, IsRatioBelow, AddsFraction}
 
 -- ---- at most eight integrals and eight moduli have at most 64 places
+pub at_most_64 : (p : Problem) → length p.integrals * length p.moduli ≤ 64
+at_most_64 p = let most : length p.integrals * length p.moduli ≤ 8 * 8 = mul-le-mul p.rules.few_integrals p.rules.moduli.most in omega arith
+
 pub within_64 : (p : Problem) (place : ℕ) → place < length p.integrals * length p.moduli → place < 64
-within_64 p place h = let most : length p.integrals * length p.moduli ≤ 8 * 8 = mul-le-mul p.rules.few_integrals p.rules.moduli.most in omega arith
+within_64 p place h = let most = at_most_64 p in omega arith
 
 -- ---- answers that give residues
 -- a fraction whose bottom is a unit has a residue, and so does one that is not said to lack it

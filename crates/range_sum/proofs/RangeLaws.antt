@@ -1,6 +1,7 @@
 -- The trees and the bad numbers of a range, and its sums over no number and over all.
 use Rattle.std.proofs.Common.{◌≡◌, ℕ, zero, suc, ◌%◌, ◌<◌, Bool, List, length, slice_index, replicate, refl, sym, ap, ◌∙◌, subst, arith, pos, mod-lt, ⊎_elim, IsTrue}
 use Rattle.std.proofs.lemmas.Bool.{cases_lt}
+use Rattle.std.proofs.lemmas.List.{length-replicate}
 use Rattle.std.proofs.Math.Nat.{mod-eq_of_lt, one-dvd, dvd_refl}
 use Rattle.arithmetic.specs.Numbers.{gcd}
 use Rattle.arithmetic.specs.Fractions.{fraction, IsResidue}
@@ -18,6 +19,7 @@ use Rattle.problem.specs.declared.problem.Problem.{Problem}
 use Rattle.problem.specs.Problems.{view}
 use Rattle.problem.specs.Sums.{count_of, ArePartialSums, AreKontsevichSums}
 use Rattle.decorated_tree.proofs.Counts.{limits}
+use Rattle.range_sum.proofs.Places.{at_most_64}
 
 -- a decorated tree of the shape, and that of the number k where k is below the end
 pub record IsTreeUpTo (s : TreeShape) (end k : ℕ) (t : Tree) : Type 0 where
@@ -49,6 +51,7 @@ zeros (suc n) (suc i) = zeros n i
 
 pub no_numbers : (p : Problem) (first : ℕ) (sums : List ℕ) → sums ≡ replicate 64 0 → ArePartialSums (view p) first first sums
 no_numbers p first sums e = record {
+  as_many = let most = at_most_64 p in let l : length sums ≡ 64 = ap length e ∙ length-replicate {A = ℕ} 64 0 in omega arith;
   each = λ place h.
       let m = modulus_at p.moduli place in
       let above : 1 < m = modulus_above p place in

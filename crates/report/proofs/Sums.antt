@@ -1,19 +1,18 @@
 -- The fraction that is found for an integral is its sum, where that lies within the bounds.
-use Rattle.std.proofs.Common.{ℕ, ◌+◌, ◌*◌, ◌<◌, ◌≤◌, List, [], length, slice_index, get_or, Option, sym, subst}
+use Rattle.std.proofs.Common.{ℕ, ◌+◌, ◌*◌, ◌<◌, List, [], length, slice_index, get_or, Option, sym, subst}
 use Rattle.arithmetic.specs.Fractions.{IsResidue}
 use Rattle.localisation.specs.Agreement.{modulus_at, integral_at}
 use Rattle.localisation.specs.Contribution.{kontsevich_sum}
 use Rattle.recover_fraction.specs.declared.recovery.Fraction.{Fraction}
 use Rattle.problem.specs.Rules.{ProblemView}
-use Rattle.problem.specs.Sums.{places_of}
 use Rattle.report.specs.Outcome.{IsDone}
 use Rattle.report.specs.Fractions.{residues_of, AreReduced, AreFractions, FindSums}
 use Rattle.report.proofs.LowestTerms.{residue_in_lowest_terms}
 use Rattle.report.proofs.Integrals.{place_within, modulus_there, integral_there, residue_there}
 
 -- sums are below their moduli
-pub reduced_from_done : (p : ProblemView) (residues : List ℕ) → places_of p ≤ length residues → IsDone p residues → AreReduced p residues
-reduced_from_done p residues h d = record { as_many = h; below = λ place l. (d.sums.each place l).below }
+pub reduced_from_done : (p : ProblemView) (residues : List ℕ) → IsDone p residues → AreReduced p residues
+reduced_from_done p residues d = record { as_many = d.sums.as_many; below = λ place l. (d.sums.each place l).below }
 
 -- the residue of the sum of the integral i modulo the modulus j
 sum_residue : (p : ProblemView) (residues : List ℕ) (i j : ℕ) → IsDone p residues → i < length p.integrals → j < length p.moduli

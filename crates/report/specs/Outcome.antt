@@ -1,15 +1,21 @@
 -- What the sum of a problem comes to.
-use Rattle.std.specs.Prelude.{ℕ, List}
-use Rattle.localisation.specs.Agreement.{IsLeastBad, NoneBad, IsFirstBad}
+use Rattle.std.specs.Prelude.{◌≡◌, ℕ, ◌≤◌, true, List}
+use Rattle.trees.specs.Decorated.{DecoratedTree, all_trees}
+use Rattle.trees.specs.Members.{IsIn}
+use Rattle.trees.specs.Numbers.{tree_of, number_of}
+use Rattle.localisation.specs.Agreement.{IsLeastBad, IsFirstBad}
 use Rattle.problem.specs.Rules.{ProblemView}
-use Rattle.problem.specs.Sums.{count_of, is_bad_of, is_bad_modulo, AreKontsevichSums}
+use Rattle.problem.specs.Sums.{count_of, is_bad_of, is_bad_tree_of, is_bad_modulo, HasBadTree, AreKontsevichSums}
 
--- no tree is bad, and each residue is that of its integral's Kontsevich sum over all decorated trees
+-- no decorated tree is bad, and the residues are those of each integral's Kontsevich sum over all decorated trees
 pub record IsDone (p : ProblemView) (residues : List ℕ) : Type 0 where
-  pub none_bad : NoneBad (is_bad_of p) 0 (count_of p)
+  pub none_bad : ¬ HasBadTree p
   pub sums : AreKontsevichSums p residues
 
--- the least number whose tree has no residue, and the place of the first modulus for which it has none
+-- The least number whose tree is bad, and the index of the first modulus for which it is. The tree is a decorated tree,
+-- and each decorated tree that is bad has this number or a greater one.
 pub record IsNoInverse (p : ProblemView) (number place : ℕ) : Type 0 where
   pub least : IsLeastBad (is_bad_of p) 0 (count_of p) number
   pub first : IsFirstBad (is_bad_modulo p number) p.moduli place
+  pub tree : IsIn (tree_of p.shape number) (all_trees p.shape)
+  pub least_of_all : (g : DecoratedTree) → IsIn g (all_trees p.shape) → is_bad_tree_of p g ≡ true → number ≤ number_of p.shape g

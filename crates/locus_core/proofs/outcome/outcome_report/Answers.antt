@@ -10,16 +10,16 @@ both : {A E : Type 0} {P Q R : A → Type 0} (r : Result A E) → ((x : A) → P
 both (Ok x) f p q = f x p q
 both (Err e) f p q = tt
 
-pub returns-then-total-clause-report : goal.returns-then-total-clause-report
-returns-then-total-clause-report c =
+pub returns-then-total : goal.returns-then-total
+returns-then-total c =
     let total = c.sum_range-total.ensures in
-    let d = done_by (view c.args.problem.now) c.count.result _ c.count.ensures.value
+    let d = done_by (view c.args.problem.now) c.count.result _ c.args.problem.now.rules c.count.ensures.value
     (total.none c.if-total.true) (total.all c.if-total.true refl c.count.ensures.value) in
     IfOk-weaker c.done.result _ _ (λ report h. done d h) c.done.ensures
 
-pub returns-clause-report : goal.returns-clause-report
-returns-clause-report c =
+pub returns : goal.returns
+returns c =
     both c.no_inverse.result
-    (λ report s t. no_inverse_by (view c.args.problem.now) c.count.result _ c.in-Some.place _ _ c.count.ensures.value
+    (λ report s t. no_inverse_by (view c.args.problem.now) c.count.result _ c.in-Some.place _ _ c.args.problem.now.rules c.count.ensures.value
     (c.sum_range-total.ensures.least c.if-total.false) c.in-Some.ensures.first s t)
     c.no_inverse.ensures.status c.no_inverse.ensures.text

@@ -27,7 +27,7 @@ loop-start-preserved c =
       from = omega arith;
       to = omega arith;
       none = none_append (is_bad_of (view p)) c.args.first start stop c.loop-start.invariant.none (c.in_default.ensures.none refl);
-      sums = sums_more p c.args.first start stop _ _ from order c.loop-start.invariant.sums (c.in_default.ensures.added refl);
+      sums = sums_more p c.args.first start stop _ _ from order (omega arith) c.loop-start.invariant.sums (c.in_default.ensures.added refl);
       rest = λ place h. c.add_block.ensures.rest place h ∙ c.loop-start.invariant.rest place h;
     }
 

@@ -1,0 +1,30 @@
+//! The words of the command line, as the host gives them.
+
+use std::env;
+use std::io;
+use std::io::ErrorKind;
+use std::rt::Env;
+
+/// Why the words of the command line were not read.
+#[derive(Clone, Copy, Debug, PartialEq, Eq, Drop)]
+pub enum WordsError {
+    /// A word is no UTF-8.
+    NotText,
+    /// The allocator refused memory.
+    NoMemory,
+}
+
+/// The words of the command line, of which the first is the program's name.
+///
+/// # Errors
+/// A word that is no UTF-8, or want of memory.
+pub fn host_words<R: Env + AllocGlobal>(runtime: &R) -> Result<Vec<String>, WordsError> {
+    collected(runtime).map_err(|error| match error.kind() {
+        ErrorKind::OutOfMemory => WordsError::NoMemory,
+        _ => WordsError::NotText,
+    })
+}
+
+fn collected<R: Env + AllocGlobal>(runtime: &R) -> io::Result<Vec<String>> {
+    Ok(env::args(runtime)?.collect(runtime.alloc())?)
+}
