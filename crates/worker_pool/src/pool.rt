@@ -8,7 +8,8 @@ ghost use Rattle.worker_pool.specs.Shares.{GrewBy};
 use crate::gate::Gate;
 use crate::job::Job;
 use crate::shares::Shares;
-use claim_table::{Claimer, Closed, CursorSeat, Owners};
+use claim_table::{Claimer, Closed, Owners};
+use range_deque::RangeSeat;
 use residue::NoMemory;
 use std::alloc::Global;
 use std::thread::{Threads, join_mut};
@@ -185,7 +186,7 @@ pub fn run_round<R: Threads + Sync, J: Job, G: Gate>(
     ensures shares { IfOk result (λ r. GrewBy r.owners shares.old shares.new) }
     ensures all_shares { OnOk result (sum shares.new ≡ sum shares.old + blocks) }
 {
-    let round = round_of::<R, J, G, CursorSeat>(rt, alloc, job, gate, blocks, parts)?;
+    let round = round_of::<R, J, G, RangeSeat>(rt, alloc, job, gate, blocks, parts)?;
     shares.raise(&round.owners);
     Ok(round)
 }
