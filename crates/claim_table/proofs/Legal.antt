@@ -1,5 +1,5 @@
 -- The owners of blocks that were taken once are their takers, so the claims are legal. Over any seats that have a record each.
-use Rattle.std.proofs.Common.{◌≡◌, ℕ, zero, suc, ◌+◌, ◌*◌, ◌<◌, ◌≤◌, Bool, true, eqb, eq-eqb, ne_eqb, ltb, leb, ◌&&◌, List, [], ◌∷◌, ◌++◌, length, get_or, map, take, set, sym, refl, ap, ◌∙◌, subst, arith}
+use Rattle.std.proofs.Common.{◌≡◌, ℕ, zero, suc, ◌+◌, ◌*◌, ◌<◌, ◌≤◌, Bool, eqb, eq-eqb, ne_eqb, ltb, leb, ◌&&◌, List, [], ◌∷◌, ◌++◌, length, get_or, map, take, set, sym, refl, ap, ◌∙◌, subst, arith}
 use Rattle.std.proofs.lemmas.List.{take_more, get_or-set_same, get_or-set_other}
 use Rattle.std.proofs.lemmas.Bool.{lt-ltb, le-ltb}
 use Rattle.std.proofs.lemmas.Bool.Decides.{nat_tests}
@@ -7,20 +7,9 @@ use mathlib.Core.Logic.{dite}
 use native.Mathlib.Decide.{ℕ_discrete, dec_lt}
 use Rattle.claim_table.specs.declared.claimer.Plan.{Plan}
 use Rattle.claim_table.specs.declared.claimer.Record.{Record}
-use Rattle.claim_table.specs.Counts.{bit, times, up_to, total, sum_below, once_below, least_of}
-use Rattle.claim_table.specs.Claims.{given, all_reported, dry_count, takes_of, IsShareOf, IsLegal}
-use Rattle.claim_table.proofs.Lists.{times-append, up_to-append, at_most_or, bit_eq, bit_ne, least_is, get_or-map, length-map_is, some_item, sum_below_add, sum_below_same, sum_below_none, total_by_times, mul_add}
-
--- 1 for each record
-abbrev pub one : Record → ℕ
-one r = 1
-
--- how many numbers up to x the record has reported, or seen
-abbrev pub reported_up_to : ℕ → Record → ℕ
-reported_up_to x r = up_to x r.reported
-
-abbrev pub seen_up_to : ℕ → Record → ℕ
-seen_up_to x r = up_to x r.seens
+use Rattle.claim_table.specs.Counts.{bit, times, total, sum_below, once_below}
+use Rattle.claim_table.specs.Claims.{given, takes_of, IsShareOf, IsLegal}
+use Rattle.claim_table.proofs.Lists.{times-append, at_most_or, bit_eq, bit_ne, get_or-map, length-map_is, some_item, sum_below_add, sum_below_same, sum_below_none, total_by_times, mul_add}
 
 -- the last worker of a list to have taken the block, and else the owner that there was
 abbrev pub owner_after : ℕ → List Record → ℕ → ℕ
@@ -84,32 +73,11 @@ pub owner_after-one : (b o : ℕ) (rs : List Record) (r : Record) → owner_afte
 owner_after-one b o [] r = refl
 owner_after-one b o (s ∷ rs) r = owner_after-one b (given (times b s.taken) s.worker o) rs r
 
-pub up_to_reports : (x : ℕ) (rs : List Record) → up_to x (all_reported rs) ≡ total (reported_up_to x) rs
-up_to_reports x [] = refl
-up_to_reports x (r ∷ rs) = let a = up_to_reports x rs in let b = up_to-append x r.reported (all_reported rs) in omega arith
-
 is_below : (b n w k : ℕ) → b < n → bit (ltb b n && eqb w k) ≡ bit (eqb w k)
 is_below b n w k h = ap (λ t. bit (t && eqb w k)) (lt-ltb b n h)
 
 not_below : (b n w k : ℕ) → n ≤ b → bit (ltb b n && eqb w k) ≡ 0
 not_below b n w k h = ap (λ t. bit (t && eqb w k)) (le-ltb b n h)
-
-pub ones : (rs : List Record) → total one rs ≡ length rs
-ones [] = refl
-ones (r ∷ rs) = let a = ones rs in omega arith
-
-pub nothing_of_none : (g : Record → ℕ) (rs : List Record) → total one rs ≡ 0 → total g rs ≡ 0
-nothing_of_none g [] e = refl
-nothing_of_none g (r ∷ rs) e = absurd (omega arith)
-
-pub all_dry : (rs : List Record) → ((k : ℕ) (d : Record) → k < length rs → (get_or rs k d).dry ≡ true) → total dry_count rs ≡ length rs
-all_dry [] h = refl
-all_dry (r ∷ rs) h = let a = all_dry rs (λ k d lt. h (suc k) d (omega arith)) in let b : dry_count r ≡ 1 = ap bit (h 0 r (omega arith)) in omega arith
-
--- the least number that was reported, by how many were reported up to each number
-pub least_reported : (n : ℕ) (rs : List Record) → n ≤ 18446744073709551615 → ((x : ℕ) → x < 18446744073709551615 → n ≤ x → 0 < total (reported_up_to x) rs) → ((x : ℕ) → x < n → total (reported_up_to x) rs ≡ 0) → n ≡ least_of (all_reported rs)
-least_reported n rs most some_there none = least_is n (all_reported rs) most (λ x lt le. let a = some_there x lt le in let b = up_to_reports x rs in omega arith)
-    (λ x less. let a = none x less in let b = up_to_reports x rs in omega arith)
 
 once_within : (n b : ℕ) → b < n → once_below n b ≡ 1
 once_within n b h = grind (arith, nat_tests)

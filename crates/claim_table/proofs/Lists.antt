@@ -1,12 +1,12 @@
 -- Lists, counts in them and sums over them.
-use Rattle.std.proofs.Common.{◌≡◌, ◌≢◌, ℕ, zero, suc, ◌+◌, ◌*◌, ◌<◌, ◌≤◌, eqb, eq-eqb, ne_eqb, leb, List, [], ◌∷◌, ◌++◌, length, length-append, map, set, get_or, sym, refl, ap, subst, arith}
+use Rattle.std.proofs.Common.{◌≡◌, ◌≢◌, ℕ, zero, suc, ◌+◌, ◌*◌, ◌<◌, ◌≤◌, eqb, eq-eqb, ne_eqb, leb, List, [], ◌∷◌, ◌++◌, length, length-append, append-nil, map, set, get_or, sym, refl, ap, ◌∙◌, subst, arith}
 use Rattle.std.proofs.lemmas.Bool.Decides.{nat_tests}
 use Rattle.std.specs.Prelude.{All}
 use mathlib.Core.Logic.{dite}
 use mathlib.Core.Option.{some, some-injective, some-ne-none}
 use native.Mathlib.Decide.{ℕ_discrete, dec_lt}
 use lib.ListN.{get_elem?}
-use Rattle.claim_table.specs.Counts.{bit, times, up_to, total, sum_below, least_of}
+use Rattle.claim_table.specs.Counts.{bit, times, up_to, total, sum_below, nothing_bad, least_of}
 
 pub total-set : {A : Type 0} (f : A → ℕ) (xs : List A) (i : ℕ) (x y : A) → get_elem? xs i ≡ some x → total f (set xs i y) + f x ≡ total f xs + f y
 total-set f [] i x y e = absurd (some-ne-none x (sym e))
@@ -83,7 +83,7 @@ bit_le k x h = grind (arith, nat_tests)
 pub bit_not_le : (k x : ℕ) → x < k → bit (leb k x) ≡ 0
 bit_not_le k x h = grind (arith, nat_tests)
 
-pub least_most : (xs : List ℕ) → least_of xs ≤ 18446744073709551615
+pub least_most : (xs : List ℕ) → least_of xs ≤ nothing_bad
 least_most [] = omega arith
 least_most (x ∷ xs) = let a = least_most xs in omega arith
 
@@ -91,12 +91,12 @@ pub none_less_than_least : (x : ℕ) (xs : List ℕ) → x < least_of xs → up_
 none_less_than_least x [] h = refl
 none_less_than_least x (y ∷ ys) h = let a = none_less_than_least x ys (omega arith) in let b = bit_not_le y x (omega arith) in omega arith
 
-pub least_there : (x : ℕ) (xs : List ℕ) → least_of xs ≤ x → x < 18446744073709551615 → 0 < up_to x xs
+pub least_there : (x : ℕ) (xs : List ℕ) → least_of xs ≤ x → x < nothing_bad → 0 < up_to x xs
 least_there x [] h lt = absurd (omega arith)
 least_there x (y ∷ ys) h lt = dite (dec_lt x y) (λ less. let a = least_there x ys (omega arith) lt in omega arith) (λ more. let b = bit_le y x (omega arith) in omega arith)
 
 -- the least number that was reported
-pub least_is : (n : ℕ) (xs : List ℕ) → n ≤ 18446744073709551615 → ((x : ℕ) → x < 18446744073709551615 → n ≤ x → 0 < up_to x xs) → ((x : ℕ) → x < n → up_to x xs ≡ 0) → n ≡ least_of xs
+pub least_is : (n : ℕ) (xs : List ℕ) → n ≤ nothing_bad → ((x : ℕ) → x < nothing_bad → n ≤ x → 0 < up_to x xs) → ((x : ℕ) → x < n → up_to x xs ≡ 0) → n ≡ least_of xs
 least_is n xs most some_there none = let m = least_most xs in
     let up : n ≤ least_of xs → (n < least_of xs → ⊥) → n ≡ least_of xs = λ a b. omega arith in
     up (at_least (λ less. let a = none (least_of xs) less in let b = least_there (least_of xs) xs (omega arith) (omega arith) in omega arith))
@@ -121,6 +121,13 @@ pub at_middle : {A : Type 0} (xs ys : List A) (x d : A) → get_or (xs ++ x ∷ 
 at_middle [] ys x d = refl
 at_middle (z ∷ zs) ys x d = at_middle zs ys x d
 
+-- the next of a list stands behind those that came before it
+pub next_is : {A : Type 0} (all xs rest : List A) (x : A) → all ≡ xs ++ x ∷ rest → get_or all (length xs) x ≡ x
+next_is all xs rest x e = ap (λ l. get_or l (length xs) x) e ∙ at_middle xs rest x x
+
+pub next_in : {A : Type 0} (all xs rest : List A) (x : A) → all ≡ xs ++ x ∷ rest → length xs < length all
+next_in all xs rest x e = omega (arith, ap length e, length-append xs (x ∷ rest))
+
 pub append_one : {A : Type 0} (xs ys : List A) (x : A) → (xs ++ x ∷ []) ++ ys ≡ xs ++ x ∷ ys
 append_one [] ys x = refl
 append_one (z ∷ zs) ys x = ap (λ l. z ∷ l) (append_one zs ys x)
@@ -128,6 +135,10 @@ append_one (z ∷ zs) ys x = ap (λ l. z ∷ l) (append_one zs ys x)
 pub nil_is : {A : Type 0} (xs : List A) → length xs ≡ 0 → xs ≡ []
 nil_is [] e = refl
 nil_is (x ∷ xs) e = absurd (omega arith)
+
+-- nothing is left behind those that came
+pub none_left : {A : Type 0} (all xs rest : List A) → all ≡ xs ++ rest → length rest ≡ 0 → xs ≡ all
+none_left all xs rest e none = sym (e ∙ ap (λ l. xs ++ l) (nil_is rest none) ∙ append-nil xs)
 
 pub map-one : {A B : Type 0} (f : A → B) (xs : List A) (x : A) → map f (xs ++ x ∷ []) ≡ map f xs ++ f x ∷ []
 map-one f [] x = refl

@@ -1,14 +1,17 @@
-// What two representations of the claims of a round have in common.
-ghost use Rattle.std.specs.Prelude.{◌≡◌, ℕ, ◌+◌, ◌-◌, ◌<◌, ◌≤◌, ◌^◌, true, length, slice_index_or, map, All, IfOk, IfSome, IfNone};
+// The contract of the claims of a round, which each representation meets, and what it speaks of.
+ghost use Rattle.std.specs.Prelude.{◌≡◌, ℕ, ◌+◌, ◌<◌, ◌≤◌, true, length, slice_index_or, map, All, IfOk, IfSome, IfNone};
 ghost use Rattle.claim_table.specs.declared.claimer.Plan.{Plan};
 ghost use Rattle.claim_table.specs.declared.claimer.Record.{Record};
-ghost use Rattle.claim_table.specs.Counts.{times, least_of};
+ghost use Rattle.claim_table.specs.Counts.{times, nothing_bad, least_of};
 ghost use Rattle.claim_table.specs.Claims.{plan, fresh, with_taken, made_dry, with_reported, with_seen, all_reported, IsLegal};
 
 use crate::owners::Owners;
 use residue::NoMemory;
 use std::alloc::Global;
 use std::collections::LinkedList;
+
+/// No bad number: 2^64 - 1, which is never reported.
+pub const NOTHING_BAD: u64 = u64::MAX;
 
 /// A block of a round, by its number.
 #[derive(Clone, Copy, Debug, PartialEq, Eq)]
@@ -45,7 +48,7 @@ pub struct Record {
 pub struct Closed {
     /// For each block the worker that took it.
     pub owners: Owners,
-    /// The least number that was reported bad, or 2^64 - 1 where none was.
+    /// The least number that was reported bad, or [`NOTHING_BAD`] if none was.
     pub least_bad: u64,
 }
 
@@ -100,15 +103,15 @@ pub trait Claimer {
         ensures none_left { IfNone result (found_none self.old self.new) }
         ensures room { length (record_of self.new).taken ≤ (plan_of board.now).blocks };
 
-    /// Reports a bad number, which is below 2^64 - 1.
+    /// Reports a bad number, which is below [`NOTHING_BAD`].
     fn report_bad(&mut self, board: &Self::Board, number: u64)
         requires seat { sits_at self.old board.now }
-        requires number { number < 2 ^ 64 - 1 }
+        requires number { number < nothing_bad }
         ensures seat { sits_at self.new board.now }
         ensures free { is_free self.old → is_free self.new }
         ensures reported { record_of self.new ≡ with_reported (record_of self.old) number };
 
-    /// The least number that anyone reported so far, or 2^64 - 1 where nobody did.
+    /// The least number that anyone reported so far, or [`NOTHING_BAD`] if nobody did.
     fn least_bad(&mut self, board: &Self::Board) -> u64
         requires { sits_at self.old board.now }
         ensures seat { sits_at self.new board.now }
