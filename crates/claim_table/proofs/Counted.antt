@@ -18,7 +18,8 @@ pub record IsCounted (p : Plan) (words : List ℕ) (views : List (View Record)) 
   pub counts : cursor words ≡ over taken_count views + over dry_count views
   pub least : IsLeastOver itself (bad words) views
 
-pub counted : (p : Plan) (words : List ℕ) (views : List (View Record)) → IsClaimed p words views → IsCounted p words views
+pub counted : (p : Plan) (words : List ℕ) (views : List (View Record)) → IsClaimed p words views
+    → IsCounted p words views
 counted p words views h = record {
   limits = h.limits;
   two_words = h.two_words;
@@ -29,7 +30,8 @@ counted p words views h = record {
   least = least_over itself (bad words) views h.least;
 }
 
-pub claimed : (p : Plan) (words : List ℕ) (views : List (View Record)) → IsCounted p words views → IsClaimed p words views
+pub claimed : (p : Plan) (words : List ℕ) (views : List (View Record)) → IsCounted p words views
+    → IsClaimed p words views
 claimed p words views h = record {
   limits = h.limits;
   two_words = h.two_words;

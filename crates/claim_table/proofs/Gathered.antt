@@ -16,15 +16,18 @@ pub total-map : {A B : Type 0} (g : B → ℕ) (f : A → B) (xs : List A) → t
 total-map g f [] = refl
 total-map g f (x ∷ xs) = omega (arith, total-map g f xs)
 
-module _ {A R : Type 0} (done : R → Record) (record_of : A → R) (seats : List A) (p : Plan) (views : List (View R)) (id : ℕ) (v : View R)
-    (counted : AreCounted done p views) (at : get_elem? views id ≡ some v) (is : v.records ≡ map record_of seats) (all : length seats ≡ p.workers) where
+module _ {A R : Type 0} (done : R → Record) (record_of : A
+    → R) (seats : List A) (p : Plan) (views : List (View R)) (id : ℕ) (v : View R)
+    (counted : AreCounted done p views) (at : get_elem? views id ≡ some v) (is : v.records ≡ map record_of seats)
+    (all : length seats ≡ p.workers) where
   as_many : length v.records ≡ p.workers
   as_many = ap length is ∙ length-map_is record_of seats ∙ all
 
   -- what all records add up to, the seats add up to
   pub gathered : (g : R → ℕ) → over g views ≡ total (λ s. g (record_of s)) seats
   gathered g =
-      all_at (λ (w : View R). total g w.records) (λ (w : View R). total one w.records) views id v (λ w. nothing_of_none g w.records) at (omega (arith, counted.records, ones v.records, as_many))
+      all_at (λ (w : View R). total g w.records) (λ (w : View R). total one w.records) views id v
+      (λ w. nothing_of_none g w.records) at (omega (arith, counted.records, ones v.records, as_many))
       ∙ ap (total g) is ∙ total-map g record_of seats
 
   -- the bad word is the least number that the seats reported

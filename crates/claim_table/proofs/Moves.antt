@@ -34,11 +34,20 @@ none_more n m b h = let e : min (n + 1) m ≡ min n m = omega arith in ap (λ k.
 not_below : (n m : ℕ) → bit (ltb n (min n m)) ≡ 0
 not_below n m = grind (arith, nat_tests)
 
-fits_word : (p : Plan) (words : List ℕ) (views : List (View Record)) → IsCounted p words views → (cursor words + 1) % 2 ^ 64 ≡ cursor words + 1
-fits_word p words views h = mod-eq_of_lt (omega (arith, over_le dry_count one views dry_at_most_one, h.records.records, h.limits, h.takes, h.counts))
+fits_word : (p : Plan) (words : List ℕ) (views : List (View Record)) → IsCounted p words views
+    → (cursor words + 1) % 2 ^ 64 ≡ cursor words + 1
+fits_word p words views h = mod-eq_of_lt (omega (
+  arith,
+  over_le dry_count one views dry_at_most_one,
+  h.records.records,
+  h.limits,
+  h.takes,
+  h.counts,
+))
 
 -- The steps of the seat of one worker.
-module _ (p : Plan) (words : List ℕ) (views : List (View Record)) (id : ℕ) (v : View Record) (h : IsCounted p words views)
+module _ (p : Plan) (words : List ℕ) (views : List (View Record)) (id : ℕ) (v : View Record)
+    (h : IsCounted p words views)
     (one_record : length v.records ≡ 1) (at : get_elem? views id ≡ some v) where
   -- what a number of each record adds up to where the record of this worker becomes r
   moved : (r : Record) (g : Record → ℕ) → over g (set views id (with_only v r)) + g (only v) ≡ over g views + g r
@@ -58,15 +67,23 @@ module _ (p : Plan) (words : List ℕ) (views : List (View Record)) (id : ℕ) (
   cursor_left : (n : ℕ) → cursor (set words 1 n) ≡ cursor words
   cursor_left n = get_or-set_other words 1 0 n 0 (omega arith)
 
-  takes_one : cursor words < p.blocks → IsCounted p (set words 0 (cursor words + 1)) (set views id (with_only v (with_taken (only v) (cursor words))))
+  takes_one : cursor words < p.blocks
+      → IsCounted p (set words 0 (cursor words + 1)) (set views id (with_only v (with_taken (only v) (cursor words))))
   takes_one lt = record {
     limits = h.limits;
     two_words = length-set words 0 (n + 1) ∙ h.two_words;
     records = records_stay itself (fresh 0) views id v r one_record at p refl h.records;
-    each_once = λ x. rw (cursor_set (n + 1)) (omega (arith, moved r (takes_of x), h.each_once x, times-append x (only v).taken (n ∷ []), one_more n p.blocks x lt));
+    each_once = λ x. rw (cursor_set (n + 1)) (omega (
+      arith,
+      moved r (takes_of x),
+      h.each_once x,
+      times-append x (only v).taken (n ∷ []),
+      one_more n p.blocks x lt,
+    ));
     takes = rw (cursor_set (n + 1)) (omega (arith, took, h.takes));
     counts = rw (cursor_set (n + 1)) (omega (arith, took, was_dry, moved r dry_count, h.counts));
-    least = rw (bad_left (n + 1)) (word_stays itself (fresh 0) views id v r one_record at (bad words) refl refl h.least);
+    least = rw (bad_left (n + 1)) (word_stays itself (fresh 0) views id v r one_record at
+        (bad words) refl refl h.least);
   }
     where
       n : ℕ
@@ -82,15 +99,22 @@ module _ (p : Plan) (words : List ℕ) (views : List (View Record)) (id : ℕ) (
       took = omega (arith, moved r taken_count, length-append (only v).taken (n ∷ []))
 
   -- a seat that is not dry and finds no block is dry from then on
-  takes_none : (only v).dry ≡ false → p.blocks ≤ cursor words → IsCounted p (set words 0 (cursor words + 1)) (set views id (with_only v (made_dry (only v))))
+  takes_none : (only v).dry ≡ false → p.blocks ≤ cursor words
+      → IsCounted p (set words 0 (cursor words + 1)) (set views id (with_only v (made_dry (only v))))
   takes_none wet le = record {
     limits = h.limits;
     two_words = length-set words 0 (n + 1) ∙ h.two_words;
     records = records_stay itself (fresh 0) views id v r one_record at p refl h.records;
-    each_once = λ x. rw (cursor_set (n + 1)) (omega (arith, moved r (takes_of x), h.each_once x, none_more n p.blocks x le));
+    each_once = λ x. rw (cursor_set (n + 1)) (omega (
+      arith,
+      moved r (takes_of x),
+      h.each_once x,
+      none_more n p.blocks x le,
+    ));
     takes = rw (cursor_set (n + 1)) (omega (arith, moved r taken_count, h.takes));
     counts = rw (cursor_set (n + 1)) (omega (arith, moved r taken_count, moved r dry_count, not_dry, h.counts));
-    least = rw (bad_left (n + 1)) (word_stays itself (fresh 0) views id v r one_record at (bad words) refl refl h.least);
+    least = rw (bad_left (n + 1)) (word_stays itself (fresh 0) views id v r one_record at
+        (bad words) refl refl h.least);
   }
     where
       n : ℕ
@@ -102,14 +126,19 @@ module _ (p : Plan) (words : List ℕ) (views : List (View Record)) (id : ℕ) (
       not_dry : dry_count (only v) ≡ 0
       not_dry = ap bit wet
 
-  finds : (only v).dry ≡ false → Dec (cursor words < v.blocks) → IsCounted p (set words 0 ((cursor words + 1) % 2 ^ 64)) (set views id (with_only v (after_take v (cursor words))))
+  finds : (only v).dry ≡ false → Dec (cursor words < v.blocks)
+      → IsCounted p (set words 0 ((cursor words + 1) % 2 ^ 64))
+      (set views id (with_only v (after_take v (cursor words))))
   finds wet (yes lt) =
-      rw (fits_word p words views h, lt-ltb _ _ lt) (takes_one (omega (arith, knows_blocks p.blocks views id v h.records.of_round one_record at)))
+      rw (fits_word p words views h, lt-ltb _ _ lt)
+      (takes_one (omega (arith, knows_blocks p.blocks views id v h.records.of_round one_record at)))
   finds wet (no nlt) =
-      rw (fits_word p words views h, le-ltb (cursor words) v.blocks (omega arith)) (takes_none wet (omega (arith, knows_blocks p.blocks views id v h.records.of_round one_record at)))
+      rw (fits_word p words views h, le-ltb (cursor words) v.blocks (omega arith))
+      (takes_none wet (omega (arith, knows_blocks p.blocks views id v h.records.of_round one_record at)))
 
   -- a number is reported, and the bad word is the lesser of it and what it was
-  reports_one : (k : ℕ) → IsCounted p (set words 1 (min (bad words) k)) (set views id (with_only v (with_reported (only v) k)))
+  reports_one : (k : ℕ) → IsCounted p (set words 1 (min (bad words) k))
+      (set views id (with_only v (with_reported (only v) k)))
   reports_one k = record {
     limits = h.limits;
     two_words = length-set words 1 n ∙ h.two_words;
@@ -134,13 +163,15 @@ module _ (p : Plan) (words : List ℕ) (views : List (View Record)) (id : ℕ) (
     each_once = λ x. rw (cursor_left (bad words)) (omega (arith, moved r (takes_of x), h.each_once x));
     takes = rw (cursor_left (bad words)) (omega (arith, moved r taken_count, h.takes));
     counts = rw (cursor_left (bad words)) (omega (arith, moved r taken_count, moved r dry_count, h.counts));
-    least = rw (bad_set (bad words)) (word_seen itself (fresh 0) views id v r one_record at (bad words) refl refl h.least);
+    least = rw (bad_set (bad words))
+        (word_seen itself (fresh 0) views id v r one_record at (bad words) refl refl h.least);
   }
     where
       r : Record
       r = with_seen (only v) (bad words)
 
-pub takes : (S : Type 0) (p : Plan) (slots id : ℕ) (me : Me S (View Record)) → length me.0.records ≡ 1 → (only me.0).dry ≡ false
+pub takes : (S : Type 0) (p : Plan) (slots id : ℕ) (me : Me S (View Record)) → length me.0.records ≡ 1
+    → (only me.0).dry ≡ false
     → Allows (Holds {S = S} p) slots id me 0 (λ n. (n + 1) % 2 ^ 64) (Takes (step slots 0 1 0 none) me)
 takes S p slots id me e wet s kept homes at fits =
     let h = counted p s.words s.views kept in
@@ -175,11 +206,19 @@ sees S p slots id me e s kept homes at fits =
       keeps,
       tt,
       claimed p _ _ (sees_one p s.words s.views id me.0 h e at),
-      (refl, λ x less. omega (arith, over_at (fresh 0) (reports_to itself x) s.views id me.0 e at, h.least.none_less x less)),
+      (
+        refl,
+        λ x less. omega (
+          arith,
+          over_at (fresh 0) (reports_to itself x) s.views id me.0 e at,
+          h.least.none_less x less,
+        ),
+      ),
     )
 
 -- the rule looks at sums alone
-same_sums : (p : Plan) (words : List ℕ) (views now : List (View Record)) → IsCounted p words views → SameSums p.blocks views now → IsCounted p words now
+same_sums : (p : Plan) (words : List ℕ) (views now : List (View Record)) → IsCounted p words views
+    → SameSums p.blocks views now → IsCounted p words now
 same_sums p words views now h same = record {
   limits = h.limits;
   two_words = h.two_words;
@@ -190,25 +229,33 @@ same_sums p words views now h same = record {
   least = same_word itself p.blocks (bad words) views now same h.least;
 }
 
-pub deals : (S : Type 0) (p : Plan) (id : ℕ) (v : View Record) → Splits (Holds {S = S} p) id v (dealt_left v) (dealt_right v)
-deals S p id v s kept at = claimed p _ _ (same_sums p s.words s.views (set s.views id (dealt_left v) ++ dealt_right v ∷ []) (counted p s.words s.views kept) (dealt_same p.blocks s.views id v at))
+pub deals : (S : Type 0) (p : Plan) (id : ℕ) (v : View Record)
+    → Splits (Holds {S = S} p) id v (dealt_left v) (dealt_right v)
+deals S p id v s kept at = claimed p _ _
+    (same_sums p s.words s.views (set s.views id (dealt_left v) ++ dealt_right v ∷ [])
+    (counted p s.words s.views kept) (dealt_same p.blocks s.views id v at))
 
-pub joins : (S : Type 0) (p : Plan) (id : ℕ) (v : View Record) (other : ℕ) (w : View Record) → length w.records ≡ 1 → Joins (Holds {S = S} p) id v other w (joined v w) spent
+pub joins : (S : Type 0) (p : Plan) (id : ℕ) (v : View Record) (other : ℕ) (w : View Record)
+    → length w.records ≡ 1 → Joins (Holds {S = S} p) id v other w (joined v w) spent
 joins S p id v other w e s kept at apart at' =
     let h = counted p s.words s.views kept in
-    claimed p _ _ (same_sums p s.words s.views (set (set s.views id (joined v w)) other spent) h (joined_same p.blocks s.views id v other w h.records.of_round e at apart at'))
+    claimed p _ _ (same_sums p s.words s.views (set (set s.views id (joined v w)) other spent) h
+    (joined_same p.blocks s.views id v other w h.records.of_round e at apart at'))
 
-pub enters : (S : Type 0) (p : Plan) (slots : ℕ) (me : Me S (View Record)) → Enters (Holds {S = S} p) slots 0 (λ n w. NewSeat (step slots 0 0 0 none) me n (w, []))
+pub enters : (S : Type 0) (p : Plan) (slots : ℕ) (me : Me S (View Record))
+    → Enters (Holds {S = S} p) slots 0 (λ n w. NewSeat (step slots 0 0 0 none) me n (w, []))
 enters S p slots me s kept homes fits = (
   view 0 [],
-  claimed p _ _ (same_sums p s.words s.views (s.views ++ view 0 [] ∷ []) (counted p s.words s.views kept) (entered_same p.blocks s.views)),
+  claimed p _ _ (same_sums p s.words s.views (s.views ++ view 0 [] ∷ []) (counted p s.words s.views kept)
+      (entered_same p.blocks s.views)),
   refl,
 )
 
 none_below : (m b : ℕ) → 0 ≡ bit (ltb b (min 0 m))
 none_below m b = grind (arith, nat_tests)
 
-opens_with : (p : Plan) → (p.blocks ≤ 1024) × (p.workers ≤ 64) → IsCounted p (0 ∷ nothing_bad ∷ []) (opening_view p ∷ [])
+opens_with : (p : Plan) → (p.blocks ≤ 1024) × (p.workers ≤ 64)
+    → IsCounted p (0 ∷ nothing_bad ∷ []) (opening_view p ∷ [])
 opens_with p limits = record {
   limits = limits;
   two_words = refl;
@@ -222,5 +269,6 @@ opens_with p limits = record {
     nothing_taken : total taken_count (made_from fresh 0 p.workers) ≡ 0
     nothing_taken = none_of_made fresh taken_count 0 p.workers (λ j. refl)
 
-pub opens : (S : Type 0) (p : Plan) → (p.blocks ≤ 1024) × (p.workers ≤ 64) → Holds {S = S} p (opening (0 ∷ nothing_bad ∷ []) [] (opening_view p))
+pub opens : (S : Type 0) (p : Plan) → (p.blocks ≤ 1024) × (p.workers ≤ 64)
+    → Holds {S = S} p (opening (0 ∷ nothing_bad ∷ []) [] (opening_view p))
 opens S p limits = claimed p _ _ (opens_with p limits)

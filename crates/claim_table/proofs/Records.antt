@@ -43,11 +43,13 @@ module _ {R : Type 0} (done : R → Record) (p : Plan) (views : List (View R)) w
 
 module _ {R : Type 0} (done : R → Record) (word : ℕ) (views : List (View R)) where
   pub least_over : IsLeastReported done word (all_records views) → IsLeastOver done word views
-  least_over h = least_stays word _ _ _ _ (λ x. over_all (reports_to done x) views) (λ x. over_all (sees_to done x) views) (least_to done word (all_records views) h)
+  least_over h = least_stays word _ _ _ _ (λ x. over_all (reports_to done x) views)
+      (λ x. over_all (sees_to done x) views) (least_to done word (all_records views) h)
 
   pub over_least : IsLeastOver done word views → IsLeastReported done word (all_records views)
   over_least h = least_from done word (all_records views)
-      (least_stays word _ _ _ _ (λ x. sym (over_all (reports_to done x) views)) (λ x. sym (over_all (sees_to done x) views)) h)
+      (least_stays word _ _ _ _ (λ x. sym (over_all (reports_to done x) views))
+      (λ x. sym (over_all (sees_to done x) views)) h)
 
 -- The only record of one view changes: it is r now.
 module _ {R : Type 0} (done : R → Record) (d : R) (views : List (View R)) (id : ℕ) (v : View R) (r : R)
@@ -55,29 +57,49 @@ module _ {R : Type 0} (done : R → Record) (d : R) (views : List (View R)) (id 
   moved : (g : R → ℕ) → over g (set views id (with_only v r)) + g (first_of d v.records) ≡ over g views + g r
   moved g = over_only d g views id v r one_record at
 
-  pub records_stay : (p : Plan) → (done r).worker ≡ (done (first_of d v.records)).worker → AreCounted done p views → AreCounted done p (set views id (with_only v r))
+  pub records_stay : (p : Plan) → (done r).worker ≡ (done (first_of d v.records)).worker → AreCounted done p views
+      → AreCounted done p (set views id (with_only v r))
   records_stay p same h = record {
     records = omega (arith, moved one, h.records);
-    one_each = λ worker. omega (arith, moved (is_worker done worker), h.one_each worker, ap (λ w. is_of worker (record (done r) { worker = w })) same);
+    one_each = λ worker. omega (
+      arith,
+      moved (is_worker done worker),
+      h.one_each worker,
+      ap (λ w. is_of worker (record (done r) { worker = w })) same,
+    );
     of_round = same_strangers p.blocks views id v r one_record at ∙ h.of_round;
   }
 
   -- no number was reported or seen
-  pub word_stays : (word : ℕ) → (done r).reported ≡ (done (first_of d v.records)).reported → (done r).seens ≡ (done (first_of d v.records)).seens
+  pub word_stays : (word : ℕ) → (done r).reported ≡ (done (first_of d v.records)).reported
+      → (done r).seens ≡ (done (first_of d v.records)).seens
       → IsLeastOver done word views → IsLeastOver done word (set views id (with_only v r))
   word_stays word reported seens h = least_stays word _ _ _ _
-      (λ x. omega (arith, moved (reports_to done x), ap (up_to x) reported)) (λ x. omega (arith, moved (sees_to done x), ap (up_to x) seens)) h
+      (λ x. omega (arith, moved (reports_to done x), ap (up_to x) reported))
+      (λ x. omega (arith, moved (sees_to done x), ap (up_to x) seens)) h
 
   -- a number was reported
-  pub word_reports : (word number : ℕ) → (done r).reported ≡ (done (first_of d v.records)).reported ++ number ∷ [] → (done r).seens ≡ (done (first_of d v.records)).seens
+  pub word_reports : (word number : ℕ) → (done r).reported ≡ (done (first_of d v.records)).reported ++ number ∷ []
+      → (done r).seens ≡ (done (first_of d v.records)).seens
       → IsLeastOver done word views → IsLeastOver done (min word number) (set views id (with_only v r))
   word_reports word number reported seens h = least_reports word number _ _ _ _
-      (λ x. omega (arith, moved (reports_to done x), ap (up_to x) reported, up_to-append x (done (first_of d v.records)).reported (number ∷ [])))
+      (λ x. omega (
+        arith,
+        moved (reports_to done x),
+        ap (up_to x) reported,
+        up_to-append x (done (first_of d v.records)).reported (number ∷ []),
+      ))
       (λ x. omega (arith, moved (sees_to done x), ap (up_to x) seens)) h
 
   -- the word was seen
-  pub word_seen : (word : ℕ) → (done r).reported ≡ (done (first_of d v.records)).reported → (done r).seens ≡ (done (first_of d v.records)).seens ++ word ∷ []
+  pub word_seen : (word : ℕ) → (done r).reported ≡ (done (first_of d v.records)).reported
+      → (done r).seens ≡ (done (first_of d v.records)).seens ++ word ∷ []
       → IsLeastOver done word views → IsLeastOver done word (set views id (with_only v r))
   word_seen word reported seens h = least_sees word _ _ _ _
       (λ x. omega (arith, moved (reports_to done x), ap (up_to x) reported))
-      (λ x. omega (arith, moved (sees_to done x), ap (up_to x) seens, up_to-append x (done (first_of d v.records)).seens (word ∷ []))) h
+      (λ x. omega (
+        arith,
+        moved (sees_to done x),
+        ap (up_to x) seens,
+        up_to-append x (done (first_of d v.records)).seens (word ∷ []),
+      )) h

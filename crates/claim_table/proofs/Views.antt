@@ -35,7 +35,8 @@ nothing_of_none g (r ∷ rs) e = absurd (omega arith)
 
 pub over_le : {R : Type 0} (f g : R → ℕ) (views : List (View R)) → ((r : R) → f r ≤ g r) → over f views ≤ over g views
 over_le {R} f g views h =
-    total_le (λ (v : View R). total f v.records) (λ (v : View R). total g v.records) views (λ v. total_le f g v.records h)
+    total_le (λ (v : View R). total f v.records) (λ (v : View R). total g v.records) views
+    (λ v. total_le f g v.records h)
 
 total_one : {R : Type 0} (d : R) (g : R → ℕ) (rs : List R) → length rs ≡ 1 → total g rs ≡ g (first_of d rs)
 total_one d g [] e = absurd (omega arith)
@@ -53,7 +54,8 @@ pub over_only : {R : Type 0} (d : R) (g : R → ℕ) (views : List (View R)) (id
     → over g (set views id (with_only v r)) + g (first_of d v.records) ≡ over g views + g r
 over_only {R} d g views id v r one_record at =
     let f : View R → ℕ = λ w. total g w.records in
-    let changed : total f (set views id (with_only v r)) + f v ≡ total f views + f (with_only v r) = total-set f views id v (with_only v r) at in
+    let changed : total f (set views id (with_only v r)) + f v ≡ total f views + f
+    (with_only v r) = total-set f views id v (with_only v r) at in
     omega (arith, changed, total_one d g v.records one_record)
 
 pub over_at : {R : Type 0} (d : R) (g : R → ℕ) (views : List (View R)) (id : ℕ) (v : View R)
@@ -75,12 +77,17 @@ passed_or true n h = refl
 passed_or false zero h = refl
 passed_or false (suc n) h = let e : false ≡ true = h (omega arith) in cc
 
-pub rounds_from : {R : Type 0} (blocks : ℕ) (views : List (View R)) → total (stranger blocks) views ≡ 0 → All (λ v. 0 < length v.records → v.blocks ≡ blocks) views
+pub rounds_from : {R : Type 0} (blocks : ℕ) (views : List (View R)) → total (stranger blocks) views ≡ 0
+    → All (λ v. 0 < length v.records → v.blocks ≡ blocks) views
 rounds_from {R} blocks views none k d lt some_record =
     let v : View R = get_or views k d in
-    equal_of v.blocks blocks (no_stranger (eqb v.blocks blocks) (length v.records) some_record (omega (arith, at_most_or (stranger blocks) views k d lt)))
+    equal_of v.blocks blocks (no_stranger (eqb v.blocks blocks) (length v.records) some_record (omega (
+      arith,
+      at_most_or (stranger blocks) views k d lt,
+    )))
 
-pub rounds_to : {R : Type 0} (blocks : ℕ) (views : List (View R)) → All (λ v. 0 < length v.records → v.blocks ≡ blocks) views → total (stranger blocks) views ≡ 0
+pub rounds_to : {R : Type 0} (blocks : ℕ) (views : List (View R))
+    → All (λ v. 0 < length v.records → v.blocks ≡ blocks) views → total (stranger blocks) views ≡ 0
 rounds_to blocks [] h = refl
 rounds_to blocks (v ∷ vs) h =
     omega (
@@ -89,7 +96,8 @@ rounds_to blocks (v ∷ vs) h =
       passed_or (eqb v.blocks blocks) (length v.records) (λ lt. eq-eqb v.blocks blocks (h 0 v (omega arith) lt)),
     )
 
-strange_one : {R : Type 0} (blocks : ℕ) (v : View R) → length v.records ≡ 1 → stranger blocks v ≡ cond (eqb v.blocks blocks) 0 1
+strange_one : {R : Type 0} (blocks : ℕ) (v : View R) → length v.records ≡ 1
+    → stranger blocks v ≡ cond (eqb v.blocks blocks) 0 1
 strange_one blocks v e = ap (λ n. cond (eqb v.blocks blocks) 0 n) e
 
 not_other : (a b : ℕ) → cond {A = ℕ} (eqb a b) 0 1 ≡ 0 → a ≡ b
@@ -103,9 +111,11 @@ knows_blocks blocks views id v none e at =
     not_other v.blocks blocks (omega (arith, most, strange_one blocks v e))
 
 pub same_strangers : {R : Type 0} (blocks : ℕ) (views : List (View R)) (id : ℕ) (v : View R) (r : R)
-    → length v.records ≡ 1 → get_elem? views id ≡ some v → total (stranger blocks) (set views id (with_only v r)) ≡ total (stranger blocks) views
+    → length v.records ≡ 1 → get_elem? views id ≡ some v
+    → total (stranger blocks) (set views id (with_only v r)) ≡ total (stranger blocks) views
 same_strangers {R} blocks views id v r e at =
     let f : View R → ℕ = stranger blocks in
-    let changed : total f (set views id (with_only v r)) + f v ≡ total f views + f (with_only v r) = total-set f views id v (with_only v r) at in
+    let changed : total f (set views id (with_only v r)) + f v ≡ total f views + f
+    (with_only v r) = total-set f views id v (with_only v r) at in
     let new : f (with_only v r) ≡ cond (eqb v.blocks blocks) 0 1 = refl in
     omega (arith, changed, new, strange_one blocks v e)

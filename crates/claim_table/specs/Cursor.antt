@@ -26,7 +26,8 @@ pub record IsClaimed (p : Plan) (words : List ℕ) (views : List (View Record)) 
   pub two_words : length words ≡ 2
   pub records : AreRecords itself p views
   -- the taken lists together are the blocks below the cursor, each once
-  pub each_once : (block : ℕ) → total (takes_of block) (all_records views) ≡ once_below (min (cursor words) p.blocks) block
+  pub each_once : (block : ℕ) → total (takes_of block) (all_records views) ≡ once_below
+      (min (cursor words) p.blocks) block
   pub takes : total taken_count (all_records views) ≡ min (cursor words) p.blocks
   -- the cursor counts the taken blocks and the dry records, and if a record is dry, all blocks are taken
   pub counts : cursor words ≡ total taken_count (all_records views) + total dry_count (all_records views)

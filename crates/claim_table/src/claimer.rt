@@ -84,7 +84,8 @@ pub trait Claimer {
         ensures board { IfOk result (λ r. plan_of r.0 ≡ plan blocks workers) }
         ensures seats { IfOk result (λ r. length r.1.items ≡ workers) }
         ensures seated { IfOk result (λ r. All (λ s. sits_at s r.0 × is_free s) r.1.items) }
-        ensures fresh { IfOk result (λ r. (k : ℕ) (d : Self) → k < workers → record_of (slice_index_or r.1.items k d) ≡ fresh k) };
+        ensures fresh { IfOk result (λ r. (k : ℕ) (d : Self) → k < workers
+            → record_of (slice_index_or r.1.items k d) ≡ fresh k) };
 
     /// The number of the seat's worker.
     fn worker(&self) -> u32
@@ -98,7 +99,8 @@ pub trait Claimer {
         ensures seat { sits_at self.new board.now }
         ensures free { is_free self.new }
         ensures some { IfSome result (λ b. record_of self.new ≡ with_taken (record_of self.old) b.number) }
-        ensures once { IfSome result (λ b. (b.number < (plan_of board.now).blocks) × (times b.number (record_of self.old).taken ≡ 0)) }
+        ensures once { IfSome result (λ b. (b.number < (plan_of board.now).blocks)
+            × (times b.number (record_of self.old).taken ≡ 0)) }
         ensures none { IfNone result (record_of self.new ≡ made_dry (record_of self.old)) }
         ensures none_left { IfNone result (found_none self.old self.new) }
         ensures room { length (record_of self.new).taken ≤ (plan_of board.now).blocks };
@@ -123,7 +125,8 @@ pub trait Claimer {
     fn close(board: Self::Board, seats: Vec<Self>) -> Closed
         requires all { length seats.items ≡ (plan_of board).workers }
         requires seated { All (λ s. sits_at s board × is_free s × ((record_of s).dry ≡ true)) seats.items }
-        requires in_order { (k : ℕ) (d : Self) → k < length seats.items → (record_of (slice_index_or seats.items k d)).worker ≡ k }
+        requires in_order { (k : ℕ) (d : Self) → k < length seats.items
+            → (record_of (slice_index_or seats.items k d)).worker ≡ k }
         ensures legal { IsLegal (plan_of board) result.owners (map (λ s. (record_of s).taken) seats.items) }
         ensures least { result.least_bad ≡ least_of (all_reported (map record_of seats.items)) }
         ensures seen { All (λ s. All (λ number. result.least_bad ≤ number) (record_of s).seens) seats.items };

@@ -136,7 +136,8 @@ impl Claimer for CursorSeat {
         requires seat { IsSeatOf self.old board.now }
         ensures seat { IsSeatOf self.new board.now }
         ensures some { IfSome result (λ b. seat_record self.new ≡ with_taken (seat_record self.old) b.number) }
-        ensures once { IfSome result (λ b. (b.number < (board_plan board.now).blocks) × (times b.number (seat_record self.old).taken ≡ 0)) }
+        ensures once { IfSome result (λ b. (b.number < (board_plan board.now).blocks)
+            × (times b.number (seat_record self.old).taken ≡ 0)) }
         ensures none { IfNone result (seat_record self.new ≡ made_dry (seat_record self.old)) }
         ensures none_left { IfNone result (FoundNone self.old self.new) }
         ensures room { length (seat_record self.new).taken ≤ (board_plan board.now).blocks }
@@ -176,7 +177,8 @@ impl Claimer for CursorSeat {
     fn close(board: Cursor, seats: Vec<CursorSeat>) -> Closed
         requires all { length seats.items ≡ (board_plan board).workers }
         requires seated { All (λ s. IsSeatOf s board × Unit {0} × ((seat_record s).dry ≡ true)) seats.items }
-        requires in_order { (k : ℕ) (d : CursorSeat) → k < length seats.items → (seat_record (slice_index_or seats.items k d)).worker ≡ k }
+        requires in_order { (k : ℕ) (d : CursorSeat) → k < length seats.items
+            → (seat_record (slice_index_or seats.items k d)).worker ≡ k }
         ensures legal { IsLegal (board_plan board) result.owners (map (λ s. (seat_record s).taken) seats.items) }
         ensures least { result.least_bad ≡ least_of (all_reported (map seat_record seats.items)) }
         ensures seen { All (λ s. All (λ number. result.least_bad ≤ number) (seat_record s).seens) seats.items }
@@ -211,7 +213,8 @@ type CursorTable = Table<(), View<Record>, Plan, CursorRule, Global>;
 // The table of a round in which nothing was taken, and a seat that stands for all workers.
 fn open(alloc: Global, plan: &Plan) -> Result<(CursorTable, Seat<(), View<Record>>), NoMemory>
     requires { (plan.now.blocks ≤ 1024) × (plan.now.workers ≤ 64) }
-    ensures table { IfOk result (λ r. (r.0.shared.key ≡ plan.now) × (r.0.shared.table_id.words ≡ 2) × (r.0.shared.table_id.slots ≡ 0)) }
+    ensures table { IfOk result (λ r. (r.0.shared.key ≡ plan.now) × (r.0.shared.table_id.words ≡ 2)
+        × (r.0.shared.table_id.slots ≡ 0)) }
     ensures dealer { IfOk result (λ r. (r.1.table_id ≡ r.0.shared.table_id) × (r.1.me ≡ (opening_view plan.now, []))) }
 {
     Table::of_words(alloc, &[0, NOTHING_BAD], plan).map_err(|_| NoMemory)

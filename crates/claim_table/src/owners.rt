@@ -71,7 +71,8 @@ impl Owners {
     pub fn give(&mut self, taken: &[u32], worker: u32)
         requires { (b : ℕ) → 0 < times b taken.now → b < length self.old }
         ensures len { length self.new ≡ length self.old }
-        ensures owners { (b : ℕ) → b < length self.old → slice_index self.new b ≡ given (times b taken.now) worker (slice_index self.old b) }
+        ensures owners { (b : ℕ) → b < length self.old
+            → slice_index self.new b ≡ given (times b taken.now) worker (slice_index self.old b) }
     {
         for block in taken {
             self.set(Block { number: *block }, worker);

@@ -54,10 +54,12 @@ fn play(
     steps: &[(u32, Step)],
 ) -> Result<Vec<Answer>, Fail>
     requires seated { All (λ s. IsSeatOf s board.now) seats.old.items }
-    requires in_order { (k : ℕ) (d : RangeSeat) → k < length seats.old.items → (seat_record (slice_index_or seats.old.items k d)).worker ≡ k }
+    requires in_order { (k : ℕ) (d : RangeSeat) → k < length seats.old.items
+        → (seat_record (slice_index_or seats.old.items k d)).worker ≡ k }
     ensures count { length seats.new.items ≡ length seats.old.items }
     ensures seated { All (λ s. IsSeatOf s board.now) seats.new.items }
-    ensures in_order { (k : ℕ) (d : RangeSeat) → k < length seats.new.items → (seat_record (slice_index_or seats.new.items k d)).worker ≡ k }
+    ensures in_order { (k : ℕ) (d : RangeSeat) → k < length seats.new.items
+        → (seat_record (slice_index_or seats.new.items k d)).worker ≡ k }
 {
     let mut answers = Vec::new(alloc);
     for &(worker, next) in steps {
@@ -73,7 +75,8 @@ fn play(
 fn finish(board: Ranges, seats: Vec<RangeSeat>) -> Option<Closed>
     requires all { length seats.items ≡ (board_plan board).workers }
     requires seated { All (λ s. IsSeatOf s board) seats.items }
-    requires in_order { (k : ℕ) (d : RangeSeat) → k < length seats.items → (seat_record (slice_index_or seats.items k d)).worker ≡ k }
+    requires in_order { (k : ℕ) (d : RangeSeat) → k < length seats.items
+        → (seat_record (slice_index_or seats.items k d)).worker ≡ k }
 {
     for seat in &seats {
         if !seat.dry || seat.lo < seat.hi {
