@@ -13,17 +13,15 @@ use Rattle.worker_pool.proofs.Exact.{exact}
 -- a list of the same length, written over all of another
 pub whole_again : {A : Type 0} (len : ℕ) (old new : List A) → length new ≡ length old → len ≡ length old
     → take len (new ++ drop (length new) old) ≡ new
-whole_again len old new e n = rw (
-  drop_all (length new) old (omega arith),
-  append-nil new,
-) (take_all len new (omega arith))
+whole_again len old new e n =
+    rw (drop_all (length new) old (omega arith), append-nil new) (take_all len new (omega arith))
 
-module _ {S P : Type 0} (g : ℕ → Option ℕ) (stands : P → List (ℕ × ℕ) → Type 0) (record_of : S
-    → Record) (old new : List S) (parts parts_after : List P) (same_parts : length old ≡ length parts)
-    (some_part : 0 < length parts)
-    (begins : (k : ℕ) (d : S) → k < length parts
-    → record_of (get_or old k d) ≡ fresh k) (same_seats : length new ≡ length old)
-    (same_after : length parts_after ≡ length parts)
+-- The loops of all workers, from fresh seats on.
+module _ {S P : Type 0} (g : ℕ → Option ℕ) (stands : P → List (ℕ × ℕ) → Type 0) (record_of : S → Record)
+    (old new : List S) (parts parts_after : List P)
+    (same_parts : length old ≡ length parts) (some_part : 0 < length parts)
+    (begins : (k : ℕ) (d : S) → k < length parts → record_of (get_or old k d) ≡ fresh k)
+    (same_seats : length new ≡ length old) (same_after : length parts_after ≡ length parts)
     (loops : AreLoops g stands record_of old parts new parts_after) where
   -- what each worker did, from nothing
   did : (k : ℕ) (s : S) (p : P) → k < length parts → (pairs : List (ℕ × ℕ))
@@ -40,8 +38,8 @@ module _ {S P : Type 0} (g : ℕ → Option ℕ) (stands : P → List (ℕ × �
   ends_in_order k d lt = ap (λ (r : Record). r.worker) (did k d (some_item parts some_part) (omega arith)).1
 
   module _ (p : Plan) (owners : List ℕ) (least : ℕ) (workers : p.workers ≡ length parts)
-      (legal : IsLegal p owners (map (λ s. (record_of s).taken) new)) (seen : All
-      (λ s. All (λ n. least ≤ n) (record_of s).seens) new) where
+      (legal : IsLegal p owners (map (λ s. (record_of s).taken) new))
+      (seen : All (λ s. All (λ n. least ≤ n) (record_of s).seens) new) where
     some_seat : S
     some_seat = some_item new (omega arith)
 
@@ -57,9 +55,10 @@ module _ {S P : Type 0} (g : ℕ → Option ℕ) (stands : P → List (ℕ × �
 
     share_of : (k : ℕ) (ps : List (ℕ × ℕ)) → k < length parts
         → record_of (get_or new k some_seat) ≡ worked g (fresh k) ps true → IsShareOf owners k (blocks_of ps)
-    share_of k ps lt e = subst (IsShareOf owners k) (get_or-map
-        (λ s. (record_of s).taken) new k some_seat [] (omega arith)
-        ∙ ap (λ (r : Record). r.taken) e) (legal.shares k (omega arith))
+    share_of k ps lt e =
+        subst (IsShareOf owners k)
+        (get_or-map (λ s. (record_of s).taken) new k some_seat [] (omega arith) ∙ ap (λ (r : Record). r.taken) e)
+        (legal.shares k (omega arith))
 
     seens_at : (k : ℕ) (ps : List (ℕ × ℕ)) → k < length parts
         → record_of (get_or new k some_seat) ≡ worked g (fresh k) ps true → All (λ n. least ≤ n) (seens_of ps)
@@ -111,17 +110,19 @@ clean_pairs [] h = refl
 clean_pairs (p ∷ ps) h = λ i. (p.0, h 0 p (omega arith) i) ∷ clean_pairs ps (λ j q lt. h (suc j) q (omega arith)) i
 
 -- a round whose least bad number is 2^64 - 1 found nothing bad
-pub clean_round : {P : Type 0} (stands : P → List (ℕ × ℕ)
-    → Type 0) (p : Plan) (owners : List ℕ) (least : ℕ) (parts parts_after : List P)
+pub clean_round : {P : Type 0} (stands : P → List (ℕ × ℕ) → Type 0) (p : Plan) (owners : List ℕ) (least : ℕ)
+    (parts parts_after : List P)
     → IsRound stands p owners least parts parts_after → least ≡ nothing_bad
     → IsCleanRound stands p owners parts parts_after
 clean_round stands p owners least parts parts_after h none = let n = length-map_is blocks_of h.pairs in
     let w = h.legal.workers in record {
       blocks = map blocks_of h.pairs;
       legal = h.legal;
-      grown = λ k q lt l s. let ps : List (ℕ × ℕ) = get_or h.pairs k [] in
-          let clean = clean_pairs ps (λ j e less. let z = h.seen k [] (omega arith) j e less in omega (arith, z.0, z.1)) in
-          let same : ps ≡ all_clean (get_or (map blocks_of h.pairs) k []) = clean
-          ∙ ap all_clean (sym (get_or-map blocks_of h.pairs k [] [] (omega arith))) in
+      grown = λ k q lt l s.
+          let ps : List (ℕ × ℕ) = get_or h.pairs k [] in
+          let seen = h.seen k [] (omega arith) in
+          let clean = clean_pairs ps (λ j e less. let z = seen j e less in omega (arith, z.0, z.1)) in
+          let same : ps ≡ all_clean (get_or (map blocks_of h.pairs) k []) =
+          clean ∙ ap all_clean (sym (get_or-map blocks_of h.pairs k [] [] (omega arith))) in
           subst (λ z. stands (get_or parts_after k q) (l ++ z)) same (h.grown k q lt l s);
     }

@@ -81,8 +81,8 @@ answer_below seen o answer h e = subst
     (λ (a : Option ℕ). IfSome a (λ n. n < nothing_bad)) (sym e) (answer_fits seen o h)
 
 -- the loops of two halves are those of the whole
-pub loops_of_halves : {S P : Type 0} (least_bad : ℕ → Option ℕ) (stands : P → List (ℕ × ℕ)
-    → Type 0) (record_of : S → Record) (xs ys xs' ys' : List S) (ps qs ps' qs' : List P) → length ps ≡ length xs
+pub loops_of_halves : {S P : Type 0} (least_bad : ℕ → Option ℕ) (stands : P → List (ℕ × ℕ) → Type 0)
+    (record_of : S → Record) (xs ys xs' ys' : List S) (ps qs ps' qs' : List P) → length ps ≡ length xs
     → length xs' ≡ length xs → length ps' ≡ length xs
     → AreLoops least_bad stands record_of xs ps xs' ps' → AreLoops least_bad stands record_of ys qs ys' qs'
     → AreLoops least_bad stands record_of (xs ++ ys) (ps ++ qs) (xs' ++ ys') (ps' ++ qs')

@@ -24,8 +24,8 @@ each_mod sum_of f m (p ∷ ps) (b ∷ bs) e h = both_mod (sum_of p) (total sum_o
 
 -- Each part stood for nothing, and whatever blocks it stands for, each with nothing bad, its sum is that of f over
 -- them modulo m. Then the parts' sums together are f of all blocks modulo m, each once.
-pub total_of_clean : {P : Type 0} (stands : P → List (ℕ × ℕ)
-    → Type 0) (p : Plan) (owners : List ℕ) (parts parts_after : List P) (sum_of : P → ℕ) (f : ℕ → ℕ) (m : ℕ)
+pub total_of_clean : {P : Type 0} (stands : P → List (ℕ × ℕ) → Type 0)
+    (p : Plan) (owners : List ℕ) (parts parts_after : List P) (sum_of : P → ℕ) (f : ℕ → ℕ) (m : ℕ)
     → IsCleanRound stands p owners parts parts_after → length parts_after ≡ p.workers
     → ((k : ℕ) (d : P) → k < p.workers → stands (get_or parts k d) [])
     → ((x : P) (blocks : List ℕ) → stands x (all_clean blocks) → sum_of x % m ≡ total f blocks % m)

@@ -40,8 +40,8 @@ worked least_bad r pairs dry = record {
 
 -- A worker's loop took and saw some pairs, in this order, and reported the answers at them.
 -- Its seat is dry, and its part stands for these pairs behind those that it stood for.
-pub record IsLoop {P : Type 0} (least_bad : ℕ → Option ℕ) (stands : P → List (ℕ × ℕ)
-    → Type 0) (before : Record) (part : P) (after : Record) (part_after : P) : Type 0 where
+pub record IsLoop {P : Type 0} (least_bad : ℕ → Option ℕ) (stands : P → List (ℕ × ℕ) → Type 0)
+    (before : Record) (part : P) (after : Record) (part_after : P) : Type 0 where
   pub pairs : List (ℕ × ℕ)
   pub seat : after ≡ worked least_bad before pairs true
   pub grown : (l : List (ℕ × ℕ)) → stands part l → stands part_after (l ++ pairs)
@@ -57,8 +57,8 @@ AreLoops {S} {P} least_bad stands record_of seats parts seats_after parts_after 
 
 -- A round: the claims are legal, and each part stands for the pairs of its worker behind those that it stood for.
 -- No number that was seen is below the least bad number.
-pub record IsRound {P : Type 0} (stands : P → List (ℕ × ℕ)
-    → Type 0) (plan : Plan) (owners : List ℕ) (least_bad : ℕ) (parts parts_after : List P) : Type 0 where
+pub record IsRound {P : Type 0} (stands : P → List (ℕ × ℕ) → Type 0)
+    (plan : Plan) (owners : List ℕ) (least_bad : ℕ) (parts parts_after : List P) : Type 0 where
   pub pairs : List (List (ℕ × ℕ))
   pub legal : IsLegal plan owners (map blocks_of pairs)
   pub grown : (worker : ℕ) (p : P) → worker < plan.workers → (l : List (ℕ × ℕ))
@@ -72,8 +72,8 @@ all_clean blocks = map (λ b. (b, nothing_bad)) blocks
 
 -- A round with nothing bad: the claims are legal, and each part stands for its worker's blocks besides, each seen
 -- with nothing bad.
-pub record IsCleanRound {P : Type 0} (stands : P → List (ℕ × ℕ)
-    → Type 0) (plan : Plan) (owners : List ℕ) (parts parts_after : List P) : Type 0 where
+pub record IsCleanRound {P : Type 0} (stands : P → List (ℕ × ℕ) → Type 0)
+    (plan : Plan) (owners : List ℕ) (parts parts_after : List P) : Type 0 where
   pub blocks : List (List ℕ)
   pub legal : IsLegal plan owners blocks
   pub grown : (worker : ℕ) (p : P) → worker < plan.workers → (l : List (ℕ × ℕ))
