@@ -124,9 +124,8 @@ once_past : (n b : ℕ) → n ≤ b → once_below n b ≡ 0
 once_past n b h = grind (arith, nat_tests)
 
 -- Seats in the order of their workers, that took each block once among them and nothing else
-module _ {A : Type 0} (done : A
-    → Record) (seats : List A) (p : Plan) (all : length seats ≡ p.workers) (in_order : (k : ℕ) (d : A)
-    → k < length seats → (done (get_or seats k d)).worker ≡ k)
+module _ {A : Type 0} (done : A → Record) (seats : List A) (p : Plan) (all : length seats ≡ p.workers)
+    (in_order : (k : ℕ) (d : A) → k < length seats → (done (get_or seats k d)).worker ≡ k)
     (once : (b : ℕ) → total (takes_of b) (map done seats) ≡ once_below p.blocks b) where
   numbered : Numbered 0 (map done seats)
   numbered j r less = let n = length-map_is done seats in
@@ -134,8 +133,8 @@ module _ {A : Type 0} (done : A
       let same = ap (λ (q : Record). q.worker) (get_or-map done seats j s r (omega arith)) in
       omega (arith, in_order j s (omega arith))
 
-  module _ (owners : List ℕ) (o : ℕ → ℕ) (count : length owners ≡ p.blocks) (owns : (b : ℕ) → b < length owners
-      → get_or owners b 0 ≡ owner_after b (map done seats) (o b)) where
+  module _ (owners : List ℕ) (o : ℕ → ℕ) (count : length owners ≡ p.blocks)
+      (owns : (b : ℕ) → b < length owners → get_or owners b 0 ≡ owner_after b (map done seats) (o b)) where
     within : (worker : ℕ) (s : A) → worker < length seats → (b : ℕ) → b < length owners
         → times b (done (get_or seats worker s)).taken ≡ bit (ltb b (length owners) && eqb (get_or owners b 0) worker)
     within worker s lt b less = let n = length-map_is done seats in

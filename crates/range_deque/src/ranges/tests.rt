@@ -41,7 +41,7 @@ fn make_step(seat: &mut RangeSeat, board: &Ranges, step: Step) -> Answer
             let cut = seat.cut(board, victim);
             Answer::Cut(cut)
         }
-        Step::Publish if !free && seat.dry => {
+        Step::Publish if !free => {
             seat.publish(board);
             Answer::Published
         }
