@@ -1,7 +1,10 @@
 pub mod Lists
 pub mod Legal
-pub mod BadWord
-pub mod Counted
 pub mod Views
+pub mod BadWord
+pub mod Records
+pub mod Dealing
+pub mod Gathered
+pub mod Counted
 pub mod Moves
 pub mod Settled

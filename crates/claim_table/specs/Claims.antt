@@ -51,7 +51,8 @@ all_reported (r ∷ rs) = r.reported ++ all_reported rs
 
 -- the list has each block of this worker once, and nothing else
 abbrev pub IsShareOf : List ℕ → ℕ → List ℕ → Type 0
-IsShareOf owners worker taken = (block : ℕ) → times block taken ≡ bit (nat_lt block (length owners) && slice_index owners block == worker)
+IsShareOf owners worker taken =
+    (block : ℕ) → times block taken ≡ bit (nat_lt block (length owners) && slice_index owners block == worker)
 
 -- Claims of a round are legal: each block has one owner, a worker of the round,
 -- and the blocks of each worker are those that its takes answered, each once.
@@ -61,7 +62,7 @@ pub record IsLegal (p : Plan) (owners : List ℕ) (taken : List (List ℕ)) : Ty
   pub owned : (block : ℕ) → block < p.blocks → slice_index owners block < p.workers
   pub shares : (worker : ℕ) → worker < p.workers → IsShareOf owners worker (slice_index_or taken worker [])
 
--- the worker, where it took the block at least once, and else the owner that there was
+-- the worker, if it took the block at least once, and otherwise the owner that there was
 abbrev pub given : ℕ → ℕ → ℕ → ℕ
 given zero worker owner = owner
 given (suc n) worker owner = worker

@@ -1,7 +1,7 @@
 -- Counts in lists of numbers, and sums over lists.
 use Rattle.std.specs.Prelude.{ℕ, zero, suc, ◌+◌, ◌==◌, Bool, cond, List, [], ◌∷◌, min, nat_le, nat_lt}
 
--- 1 for a test that holds, and else 0
+-- 1 if the test holds, and otherwise 0
 abbrev pub bit : Bool → ℕ
 bit b = cond b 1 0
 
@@ -25,11 +25,15 @@ abbrev pub sum_below : ℕ → (ℕ → ℕ) → ℕ
 sum_below zero f = 0
 sum_below (suc n) f = sum_below n f + f n
 
--- 1 for a number below n, and else 0
+-- 1 if x is below n, and otherwise 0
 abbrev pub once_below : ℕ → ℕ → ℕ
 once_below n x = bit (nat_lt x n)
 
--- the least number of a list, and 2^64 - 1 where it is empty
+-- No bad number: 2^64 - 1, which is the greatest number of a word and is never reported.
+abbrev pub nothing_bad : ℕ
+nothing_bad = 18446744073709551615
+
+-- the least number of a list, or `nothing_bad` if it is empty
 abbrev pub least_of : List ℕ → ℕ
-least_of [] = 18446744073709551615
+least_of [] = nothing_bad
 least_of (x ∷ xs) = min x (least_of xs)

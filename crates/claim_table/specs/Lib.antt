@@ -1,4 +1,5 @@
 pub mod Counts
 pub mod Claims
+pub mod Views
 pub mod Cursor
 pub mod Seats

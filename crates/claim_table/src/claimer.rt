@@ -1,14 +1,17 @@
-// What two representations of the claims of a round have in common.
-ghost use Rattle.std.specs.Prelude.{◌≡◌, ℕ, ◌+◌, ◌-◌, ◌<◌, ◌≤◌, ◌^◌, true, length, slice_index_or, map, All, IfOk, IfSome, IfNone};
+// The contract of the claims of a round, which each representation meets, and what it speaks of.
+ghost use Rattle.std.specs.Prelude.{◌≡◌, ℕ, ◌+◌, ◌<◌, ◌≤◌, true, length, slice_index_or, map, All, IfOk, IfSome, IfNone};
 ghost use Rattle.claim_table.specs.declared.claimer.Plan.{Plan};
 ghost use Rattle.claim_table.specs.declared.claimer.Record.{Record};
-ghost use Rattle.claim_table.specs.Counts.{times, least_of};
+ghost use Rattle.claim_table.specs.Counts.{times, nothing_bad, least_of};
 ghost use Rattle.claim_table.specs.Claims.{plan, fresh, with_taken, made_dry, with_reported, with_seen, all_reported, IsLegal};
 
 use crate::owners::Owners;
 use residue::NoMemory;
 use std::alloc::Global;
 use std::collections::LinkedList;
+
+/// No bad number: 2^64 - 1, which is never reported.
+pub const NOTHING_BAD: u64 = u64::MAX;
 
 /// A block of a round, by its number.
 #[derive(Clone, Copy, Debug, PartialEq, Eq)]
@@ -45,7 +48,7 @@ pub struct Record {
 pub struct Closed {
     /// For each block the worker that took it.
     pub owners: Owners,
-    /// The least number that was reported bad, or 2^64 - 1 where none was.
+    /// The least number that was reported bad, or [`NOTHING_BAD`] if none was.
     pub least_bad: u64,
 }
 
@@ -81,7 +84,8 @@ pub trait Claimer {
         ensures board { IfOk result (λ r. plan_of r.0 ≡ plan blocks workers) }
         ensures seats { IfOk result (λ r. length r.1.items ≡ workers) }
         ensures seated { IfOk result (λ r. All (λ s. sits_at s r.0 × is_free s) r.1.items) }
-        ensures fresh { IfOk result (λ r. (k : ℕ) (d : Self) → k < workers → record_of (slice_index_or r.1.items k d) ≡ fresh k) };
+        ensures fresh { IfOk result (λ r. (k : ℕ) (d : Self) → k < workers
+            → record_of (slice_index_or r.1.items k d) ≡ fresh k) };
 
     /// The number of the seat's worker.
     fn worker(&self) -> u32
@@ -95,20 +99,21 @@ pub trait Claimer {
         ensures seat { sits_at self.new board.now }
         ensures free { is_free self.new }
         ensures some { IfSome result (λ b. record_of self.new ≡ with_taken (record_of self.old) b.number) }
-        ensures once { IfSome result (λ b. (b.number < (plan_of board.now).blocks) × (times b.number (record_of self.old).taken ≡ 0)) }
+        ensures once { IfSome result (λ b. (b.number < (plan_of board.now).blocks)
+            × (times b.number (record_of self.old).taken ≡ 0)) }
         ensures none { IfNone result (record_of self.new ≡ made_dry (record_of self.old)) }
         ensures none_left { IfNone result (found_none self.old self.new) }
         ensures room { length (record_of self.new).taken ≤ (plan_of board.now).blocks };
 
-    /// Reports a bad number, which is below 2^64 - 1.
+    /// Reports a bad number, which is below [`NOTHING_BAD`].
     fn report_bad(&mut self, board: &Self::Board, number: u64)
         requires seat { sits_at self.old board.now }
-        requires number { number < 2 ^ 64 - 1 }
+        requires number { number < nothing_bad }
         ensures seat { sits_at self.new board.now }
         ensures free { is_free self.old → is_free self.new }
         ensures reported { record_of self.new ≡ with_reported (record_of self.old) number };
 
-    /// The least number that anyone reported so far, or 2^64 - 1 where nobody did.
+    /// The least number that anyone reported so far, or [`NOTHING_BAD`] if nobody did.
     fn least_bad(&mut self, board: &Self::Board) -> u64
         requires { sits_at self.old board.now }
         ensures seat { sits_at self.new board.now }
@@ -120,7 +125,8 @@ pub trait Claimer {
     fn close(board: Self::Board, seats: Vec<Self>) -> Closed
         requires all { length seats.items ≡ (plan_of board).workers }
         requires seated { All (λ s. sits_at s board × is_free s × ((record_of s).dry ≡ true)) seats.items }
-        requires in_order { (k : ℕ) (d : Self) → k < length seats.items → (record_of (slice_index_or seats.items k d)).worker ≡ k }
+        requires in_order { (k : ℕ) (d : Self) → k < length seats.items
+            → (record_of (slice_index_or seats.items k d)).worker ≡ k }
         ensures legal { IsLegal (plan_of board) result.owners (map (λ s. (record_of s).taken) seats.items) }
         ensures least { result.least_bad ≡ least_of (all_reported (map record_of seats.items)) }
         ensures seen { All (λ s. All (λ number. result.least_bad ≤ number) (record_of s).seens) seats.items };

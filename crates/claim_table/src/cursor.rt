@@ -1,29 +1,22 @@
-// The claims by one cursor that all workers add to.
-ghost use Rattle.std.specs.Prelude.{◌≡◌, ℕ, ◌+◌, ◌<◌, ◌≤◌, true, List, [], ◌∷◌, length, map, slice_index, slice_index_or, vec_len, vec_capacity, All, IfOk, IfSome, IfNone};
+// Claims by one cursor, to which all workers add: the rule of its words, its seats and their calls.
+ghost use Rattle.std.specs.Prelude.{◌≡◌, ℕ, ◌+◌, ◌<◌, ◌≤◌, true, List, [], ◌∷◌, length, map, slice_index_or, vec_len, vec_capacity, All, IfOk, IfSome, IfNone};
 ghost use Rattle.claim_table.specs.Counts.{times, least_of};
-ghost use Rattle.claim_table.specs.Claims.{given, with_taken, made_dry, all_reported, IsLegal};
+ghost use Rattle.claim_table.specs.Claims.{with_taken, made_dry, all_reported, IsLegal};
 ghost use Rattle.claim_table.specs.Cursor.{only, opening_view};
 
-use crate::claimer::{Block, Claimer, Closed, Plan, Record};
+use crate::claimer::{Block, Claimer, Closed, NOTHING_BAD, Plan, Record};
 use crate::owners::Owners;
-use atomic_table::{Join, Play, Seat, Split, Table, TableRule};
+use crate::view::{Deal, Enter, Gather, View};
+use atomic_table::{Play, Seat, Table, TableRule};
 use residue::NoMemory;
 use std::alloc::Global;
-use std::collections::LinkedList;
 
 #[cfg(test)]
 mod tests;
 
-// What a seat of the table knows: the number of blocks, and the records of the workers that it
-// stands for. No value of it is made.
-pub struct View {
-    pub blocks: u32,
-    pub records: LinkedList<Record>,
-}
-
 pub struct CursorRule;
 
-impl TableRule<(), View, Plan> for CursorRule {
+impl TableRule<(), View<Record>, Plan> for CursorRule {
     ghost use Rattle.claim_table.specs.Cursor.{Holds, opening_view};
 
     ghost holds = { Holds };
@@ -33,7 +26,7 @@ impl TableRule<(), View, Plan> for CursorRule {
 
 struct TakeNext;
 
-impl Play<(), View> for TakeNext {
+impl Play<(), View<Record>> for TakeNext {
     ghost use Rattle.claim_table.specs.Cursor.{Takes};
 
     ghost then = { Takes };
@@ -41,7 +34,7 @@ impl Play<(), View> for TakeNext {
 
 struct ReportNumber;
 
-impl Play<(), View> for ReportNumber {
+impl Play<(), View<Record>> for ReportNumber {
     ghost use Rattle.claim_table.specs.Cursor.{Reports};
 
     ghost then = { Reports };
@@ -49,38 +42,10 @@ impl Play<(), View> for ReportNumber {
 
 struct SeeLeast;
 
-impl Play<(), View> for SeeLeast {
+impl Play<(), View<Record>> for SeeLeast {
     ghost use Rattle.claim_table.specs.Cursor.{Sees};
 
     ghost then = { Sees };
-}
-
-struct Enter;
-
-impl Play<(), View> for Enter {
-    ghost use Rattle.claim_table.specs.Cursor.{NewSeat};
-
-    ghost then = { NewSeat };
-}
-
-struct Deal;
-
-impl Split<View> for Deal {
-    ghost use Rattle.claim_table.specs.Cursor.{dealt_left, dealt_right};
-
-    ghost left = { dealt_left };
-
-    ghost right = { dealt_right };
-}
-
-struct Gather;
-
-impl Join<View> for Gather {
-    ghost use Rattle.claim_table.specs.Cursor.{joined, spent};
-
-    ghost both = { joined };
-
-    ghost spent = { spent };
 }
 
 /// The claims of a round by one cursor: the least block that nobody took.
@@ -102,7 +67,7 @@ pub struct Cursor {
 /// The seat of one worker at a [`Cursor`].
 #[derive(Drop)]
 pub struct CursorSeat {
-    seat: Seat<(), View>,
+    seat: Seat<(), View<Record>>,
     number: u32,
     dry: bool,
     // The blocks taken so far, with room for all of the round, so that no take needs memory. What
@@ -141,10 +106,10 @@ impl Claimer for CursorSeat {
     ) -> Result<(Cursor, Vec<CursorSeat>), NoMemory> {
         let plan = Plan { blocks, workers };
         let owners = Owners::new(alloc, blocks)?;
-        let mut seats = list_with_room(alloc, workers)?;
+        let mut seats = Vec::with_capacity(alloc, workers as usize)?;
         let (table, mut dealer) = open(alloc, &plan)?;
         for number in 0..workers {
-            let taken = list_with_room(alloc, blocks)?;
+            let taken = Vec::with_capacity(alloc, blocks as usize)?;
             let seat = table.shared.split_seat::<Deal>(&mut dealer);
             seats.push_reserved(CursorSeat {
                 seat,
@@ -171,7 +136,8 @@ impl Claimer for CursorSeat {
         requires seat { IsSeatOf self.old board.now }
         ensures seat { IsSeatOf self.new board.now }
         ensures some { IfSome result (λ b. seat_record self.new ≡ with_taken (seat_record self.old) b.number) }
-        ensures once { IfSome result (λ b. (b.number < (board_plan board.now).blocks) × (times b.number (seat_record self.old).taken ≡ 0)) }
+        ensures once { IfSome result (λ b. (b.number < (board_plan board.now).blocks)
+            × (times b.number (seat_record self.old).taken ≡ 0)) }
         ensures none { IfNone result (seat_record self.new ≡ made_dry (seat_record self.old)) }
         ensures none_left { IfNone result (FoundNone self.old self.new) }
         ensures room { length (seat_record self.new).taken ≤ (board_plan board.now).blocks }
@@ -211,7 +177,8 @@ impl Claimer for CursorSeat {
     fn close(board: Cursor, seats: Vec<CursorSeat>) -> Closed
         requires all { length seats.items ≡ (board_plan board).workers }
         requires seated { All (λ s. IsSeatOf s board × Unit {0} × ((seat_record s).dry ≡ true)) seats.items }
-        requires in_order { (k : ℕ) (d : CursorSeat) → k < length seats.items → (seat_record (slice_index_or seats.items k d)).worker ≡ k }
+        requires in_order { (k : ℕ) (d : CursorSeat) → k < length seats.items
+            → (seat_record (slice_index_or seats.items k d)).worker ≡ k }
         ensures legal { IsLegal (board_plan board) result.owners (map (λ s. (seat_record s).taken) seats.items) }
         ensures least { result.least_bad ≡ least_of (all_reported (map seat_record seats.items)) }
         ensures seen { All (λ s. All (λ number. result.least_bad ≤ number) (seat_record s).seens) seats.items }
@@ -229,7 +196,7 @@ impl Claimer for CursorSeat {
                 dry: _,
                 taken,
             } = seat;
-            give(&mut owners, &taken, number);
+            owners.give(&taken, number);
             table.shared.join_seat::<Gather>(&mut all, seat);
         }
         let closed = table.close_with(all);
@@ -241,31 +208,14 @@ impl Claimer for CursorSeat {
     ghost few_blocks = { λ board. board.limits.0 };
 }
 
-type CursorTable = Table<(), View, Plan, CursorRule, Global>;
+type CursorTable = Table<(), View<Record>, Plan, CursorRule, Global>;
 
 // The table of a round in which nothing was taken, and a seat that stands for all workers.
-fn open(alloc: Global, plan: &Plan) -> Result<(CursorTable, Seat<(), View>), NoMemory>
+fn open(alloc: Global, plan: &Plan) -> Result<(CursorTable, Seat<(), View<Record>>), NoMemory>
     requires { (plan.now.blocks ≤ 1024) × (plan.now.workers ≤ 64) }
-    ensures table { IfOk result (λ r. (r.0.shared.key ≡ plan.now) × (r.0.shared.table_id.words ≡ 2) × (r.0.shared.table_id.slots ≡ 0)) }
+    ensures table { IfOk result (λ r. (r.0.shared.key ≡ plan.now) × (r.0.shared.table_id.words ≡ 2)
+        × (r.0.shared.table_id.slots ≡ 0)) }
     ensures dealer { IfOk result (λ r. (r.1.table_id ≡ r.0.shared.table_id) × (r.1.me ≡ (opening_view plan.now, []))) }
 {
-    Table::of_words(alloc, &[0, u64::MAX], plan).map_err(|_| NoMemory)
-}
-
-// An empty list with room for this many elements.
-fn list_with_room<T>(alloc: Global, room: u32) -> Result<Vec<T>, NoMemory>
-    ensures { IfOk result (λ list. (list.items ≡ []) × (room ≤ vec_capacity list)) }
-{
-    Vec::with_capacity(alloc, room as usize).map_err(|_| NoMemory)
-}
-
-// The worker becomes the owner of these blocks.
-fn give(owners: &mut Owners, taken: &[u32], worker: u32)
-    requires { (b : ℕ) → 0 < times b taken.now → b < length owners.old }
-    ensures len { length owners.new ≡ length owners.old }
-    ensures owners { (b : ℕ) → b < length owners.old → slice_index owners.new b ≡ given (times b taken.now) worker (slice_index owners.old b) }
-{
-    for block in taken {
-        owners.set(Block { number: *block }, worker);
-    }
+    Table::of_words(alloc, &[0, NOTHING_BAD], plan).map_err(|_| NoMemory)
 }

@@ -1,3 +1,4 @@
 pub mod Rounds
+pub mod Loops
 pub mod Shares
 pub mod Marks

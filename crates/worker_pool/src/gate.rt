@@ -1,4 +1,4 @@
-// Where a worker can be watched, or held for a while.
+// Gates, at which each take of each worker can be watched, or the worker held for a while. Tests use them.
 
 /// Stands before each take of each worker.
 pub trait Gate: Sync {

@@ -1,5 +1,6 @@
-// What a pool needs of a job.
+// The contract of a job: work that is cut into blocks, of which any worker may take any.
 ghost use Rattle.std.specs.Prelude.{◌≡◌, ℕ, ◌<◌, List, [], ◌∷◌, ◌++◌, Option, Some};
+ghost use Rattle.claim_table.specs.Counts.{nothing_bad};
 ghost use Rattle.worker_pool.specs.Rounds.{at_most};
 
 use claim_table::Block;
@@ -23,14 +24,16 @@ pub trait Job: Sync {
     ghost stands_for: { Self → Self.Part → List (ℕ × ℕ) → Type 0 };
 
     /// Works one block. It answers the block's least bad number that is at most `seen`, or `None`
-    /// where there is none: numbers above `seen` may be passed over. It takes no memory.
+    /// if there is none: numbers above `seen` may be passed over. It takes no memory.
     fn work(&self, part: &mut Self::Part, block: Block, seen: u64) -> Option<u64>
         requires block { block.number < blocks self.now }
         requires ready { is_ready self.now part.old }
         ensures ready { is_ready self.now part.new }
-        ensures stands { (pairs : List (ℕ × ℕ)) → stands_for self.now part.old pairs → stands_for self.now part.new (pairs ++ (block.number, seen) ∷ []) }
+        ensures stands { (pairs : List (ℕ × ℕ)) → stands_for self.now part.old pairs
+            → stands_for self.now part.new (pairs ++ (block.number, seen) ∷ []) }
         ensures answer { result ≡ at_most seen (least_bad self.now block.number) };
 
     // Each bad number is below 2^64 - 1.
-    ghost bad_below: { (job : Self) (block bad : ℕ) → block < blocks job → least_bad job block ≡ Some bad → bad < 18446744073709551615 };
+    ghost bad_below: { (job : Self) (block bad : ℕ) → block < blocks job → least_bad job block ≡ Some bad
+        → bad < nothing_bad };
 }

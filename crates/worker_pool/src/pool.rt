@@ -1,14 +1,15 @@
-// The loop of one worker, the loops of all beside each other, and a whole round.
+// A round of a job: the loop of one worker, the loops of all beside each other by fork and join, and the whole.
 ghost use Rattle.std.specs.Prelude.{◌≡◌, ℕ, ◌+◌, ◌<◌, ◌≤◌, ◌^◌, ◌-◌, Option, length, sum, All, IfSome, IfOk, OnOk, OnErr};
-ghost use Rattle.std.specs.Thread.{IsSync, IsSend};
 ghost use Rattle.claim_table.specs.Claims.{plan};
+ghost use Rattle.worker_pool.specs.Loops.{AreReady, HaveRun, MayCross};
 ghost use Rattle.worker_pool.specs.Rounds.{IsLoop, AreLoops, IsRound, IsCleanRound, IsLeastBad, with_answer};
 ghost use Rattle.worker_pool.specs.Shares.{GrewBy};
 
 use crate::gate::Gate;
 use crate::job::Job;
 use crate::shares::Shares;
-use claim_table::{Claimer, Closed, CursorSeat, Owners};
+use claim_table::{Claimer, Closed, Owners};
+use range_deque::RangeSeat;
 use residue::NoMemory;
 use std::alloc::Global;
 use std::thread::{Threads, join_mut};
@@ -18,7 +19,7 @@ use std::thread::{Threads, join_mut};
 pub struct Round {
     /// For each block the worker that worked it.
     pub owners: Owners,
-    /// The least bad number of all blocks of the job, or 2^64 - 1 where they have none.
+    /// The least bad number of all blocks of the job, or 2^64 - 1 if they have none.
     pub least_bad: u64,
 }
 
@@ -39,7 +40,8 @@ pub fn work_loop<J: Job, G: Gate, C: Claimer>(
     requires part { J.is_ready job.now part.old }
     ensures seat { C.sits_at seat.new board.now × C.is_free seat.new }
     ensures ready { J.is_ready job.now part.new }
-    ensures worked { IsLoop (J.least_bad job.now) (J.stands_for job.now) (C.record_of seat.old) part.old (C.record_of seat.new) part.new }
+    ensures worked { IsLoop (J.least_bad job.now) (J.stands_for job.now) (C.record_of seat.old) part.old
+        (C.record_of seat.new) part.new }
 {
     let worker = seat.worker();
     let mut turn = 0;
@@ -67,7 +69,7 @@ fn report<C: Claimer>(seat: &mut C, board: &C::Board, bad: Option<u64>)
     }
 }
 
-// The loops of some workers, each in a thread of its own where one can be made.
+// The loops of some workers, each in a thread of its own if one can be made.
 #[cycle(halves)]
 fn run_all<'a, R: Threads + Sync, J: Job, G: Gate, C: Claimer + Send>(
     rt: &'a R,
@@ -78,12 +80,11 @@ fn run_all<'a, R: Threads + Sync, J: Job, G: Gate, C: Claimer + Send>(
     parts: &mut [J::Part],
 )
     requires board { (C.plan_of board.now).blocks ≡ J.blocks job.now }
-    requires count { (0 < length seats.old) × (length parts.old ≡ length seats.old) }
-    requires seats { All (λ s. C.sits_at s board.now × C.is_free s) seats.old }
-    requires parts { All (λ p. J.is_ready job.now p) parts.old }
+    requires ready { AreReady C.is_free C.sits_at board.now (J.is_ready job.now) seats.old parts.old }
     ensures seats { All (λ s. C.sits_at s board.now × C.is_free s) seats.new }
     ensures parts { All (λ p. J.is_ready job.now p) parts.new }
-    ensures loops { AreLoops (J.least_bad job.now) (J.stands_for job.now) C.record_of seats.old parts.old seats.new parts.new }
+    ensures loops { AreLoops (J.least_bad job.now)
+        (J.stands_for job.now) C.record_of seats.old parts.old seats.new parts.new }
 {
     if seats.len() == 1 {
         work_loop(job, &mut parts[0], &mut seats[0], board, gate);
@@ -110,18 +111,28 @@ fn run_both<'a, R: Threads + Sync, J: Job, G: Gate, C: Claimer + Send>(
     high_parts: &mut [J::Part],
 )
     requires board { (C.plan_of board.now).blocks ≡ J.blocks job.now }
-    requires low { (0 < length low_seats.old) × (length low_parts.old ≡ length low_seats.old) × All (λ s. C.sits_at s board.now × C.is_free s) low_seats.old × All (λ p. J.is_ready job.now p) low_parts.old }
-    requires high { (0 < length high_seats.old) × (length high_parts.old ≡ length high_seats.old) × All (λ s. C.sits_at s board.now × C.is_free s) high_seats.old × All (λ p. J.is_ready job.now p) high_parts.old }
-    ensures low { All (λ s. C.sits_at s board.now × C.is_free s) low_seats.new × All (λ p. J.is_ready job.now p) low_parts.new × AreLoops (J.least_bad job.now) (J.stands_for job.now) C.record_of low_seats.old low_parts.old low_seats.new low_parts.new }
-    ensures high { All (λ s. C.sits_at s board.now × C.is_free s) high_seats.new × All (λ p. J.is_ready job.now p) high_parts.new × AreLoops (J.least_bad job.now) (J.stands_for job.now) C.record_of high_seats.old high_parts.old high_seats.new high_parts.new }
+    requires low { AreReady C.is_free C.sits_at board.now (J.is_ready job.now) low_seats.old low_parts.old }
+    requires high { AreReady C.is_free C.sits_at board.now (J.is_ready job.now) high_seats.old high_parts.old }
+    ensures low { HaveRun C.is_free C.sits_at board.now (J.is_ready job.now) (J.least_bad job.now)
+        (J.stands_for job.now) C.record_of low_seats.old low_parts.old low_seats.new low_parts.new }
+    ensures high { HaveRun C.is_free C.sits_at board.now (J.is_ready job.now) (J.least_bad job.now)
+        (J.stands_for job.now) C.record_of high_seats.old high_parts.old high_seats.new high_parts.new }
 {
     let mut front = ||
-        requires { IsSync R.row × IsSync J.row × IsSync G.row × IsSync C.Board.row × IsSend C.row × IsSend J.Part.row × ((C.plan_of board.now).blocks ≡ J.blocks job.now) × (0 < length low_seats.now) × (length low_parts.now ≡ length low_seats.now) × All (λ s. C.sits_at s board.now × C.is_free s) low_seats.now × All (λ p. J.is_ready job.now p) low_parts.now }
-        ensures { All (λ s. C.sits_at s board.entry.now × C.is_free s) low_seats.exit.now × All (λ p. J.is_ready job.entry.now p) low_parts.exit.now × AreLoops (J.least_bad job.entry.now) (J.stands_for job.entry.now) C.record_of low_seats.entry.now low_parts.entry.now low_seats.exit.now low_parts.exit.now }
+        requires { MayCross R.row J.row G.row C.Board.row C.row J.Part.row
+            × ((C.plan_of board.now).blocks ≡ J.blocks job.now)
+            × AreReady C.is_free C.sits_at board.now (J.is_ready job.now) low_seats.now low_parts.now }
+        ensures { HaveRun C.is_free C.sits_at board.entry.now (J.is_ready job.entry.now)
+            (J.least_bad job.entry.now) (J.stands_for job.entry.now) C.record_of low_seats.entry.now
+            low_parts.entry.now low_seats.exit.now low_parts.exit.now }
     { run_all(rt, job, gate, board, low_seats, low_parts) };
     let mut back = ||
-        requires { IsSync R.row × IsSync J.row × IsSync G.row × IsSync C.Board.row × IsSend C.row × IsSend J.Part.row × ((C.plan_of board.now).blocks ≡ J.blocks job.now) × (0 < length high_seats.now) × (length high_parts.now ≡ length high_seats.now) × All (λ s. C.sits_at s board.now × C.is_free s) high_seats.now × All (λ p. J.is_ready job.now p) high_parts.now }
-        ensures { All (λ s. C.sits_at s board.entry.now × C.is_free s) high_seats.exit.now × All (λ p. J.is_ready job.entry.now p) high_parts.exit.now × AreLoops (J.least_bad job.entry.now) (J.stands_for job.entry.now) C.record_of high_seats.entry.now high_parts.entry.now high_seats.exit.now high_parts.exit.now }
+        requires { MayCross R.row J.row G.row C.Board.row C.row J.Part.row
+            × ((C.plan_of board.now).blocks ≡ J.blocks job.now)
+            × AreReady C.is_free C.sits_at board.now (J.is_ready job.now) high_seats.now high_parts.now }
+        ensures { HaveRun C.is_free C.sits_at board.entry.now (J.is_ready job.entry.now)
+            (J.least_bad job.entry.now) (J.stands_for job.entry.now) C.record_of high_seats.entry.now
+            high_parts.entry.now high_seats.exit.now high_parts.exit.now }
     { run_all(rt, job, gate, board, high_seats, high_parts) };
     join_mut(rt, &mut front, &mut back);
 }
@@ -139,7 +150,8 @@ fn round_of<R: Threads + Sync, J: Job, G: Gate, C: Claimer + Send>(
     requires parts { (0 < length parts.old) × (length parts.old ≤ 64) × All (λ p. J.is_ready job.now p) parts.old }
     ensures refused { OnErr result (parts.new ≡ parts.old) }
     ensures ready { All (λ p. J.is_ready job.now p) parts.new }
-    ensures worked { IfOk result (λ r. IsRound (J.stands_for job.now) (plan blocks (length parts.old)) r.owners r.least_bad parts.old parts.new) }
+    ensures worked { IfOk result (λ r. IsRound (J.stands_for job.now)
+        (plan blocks (length parts.old)) r.owners r.least_bad parts.old parts.new) }
     ensures least { IfOk result (λ r. IsLeastBad (J.least_bad job.now) blocks r.least_bad) }
 {
     let workers = parts.len() as u32;
@@ -175,17 +187,19 @@ pub fn run_round<R: Threads + Sync, J: Job, G: Gate>(
     requires shares { (length shares.old ≡ length parts.old) × All (λ share. share ≤ 2 ^ 62) shares.old }
     ensures refused { OnErr result ((parts.new ≡ parts.old) × (shares.new ≡ shares.old)) }
     ensures ready { All (λ p. J.is_ready job.now p) parts.new }
-    ensures worked { IfOk result (λ r. IsRound (J.stands_for job.now) (plan blocks (length parts.old)) r.owners r.least_bad parts.old parts.new) }
+    ensures worked { IfOk result (λ r. IsRound (J.stands_for job.now)
+        (plan blocks (length parts.old)) r.owners r.least_bad parts.old parts.new) }
 
     // The least bad number is exact, and with nothing bad each part stands for its blocks besides.
     ensures least { IfOk result (λ r. IsLeastBad (J.least_bad job.now) blocks r.least_bad) }
-    ensures clean { IfOk result (λ r. r.least_bad ≡ 2 ^ 64 - 1 → IsCleanRound (J.stands_for job.now) (plan blocks (length parts.old)) r.owners parts.old parts.new) }
+    ensures clean { IfOk result (λ r. r.least_bad ≡ 2 ^ 64 - 1
+        → IsCleanRound (J.stands_for job.now) (plan blocks (length parts.old)) r.owners parts.old parts.new) }
 
     // Together the shares grow by the number of blocks.
     ensures shares { IfOk result (λ r. GrewBy r.owners shares.old shares.new) }
     ensures all_shares { OnOk result (sum shares.new ≡ sum shares.old + blocks) }
 {
-    let round = round_of::<R, J, G, CursorSeat>(rt, alloc, job, gate, blocks, parts)?;
+    let round = round_of::<R, J, G, RangeSeat>(rt, alloc, job, gate, blocks, parts)?;
     shares.raise(&round.owners);
     Ok(round)
 }

@@ -1,4 +1,4 @@
-// How many blocks each worker has worked, over all rounds.
+// The counts of blocks that each worker has worked, over all rounds, which only a round can raise.
 ghost use Rattle.std.specs.Prelude.{◌≡◌, ℕ, ◌<◌, ◌≤◌, ◌^◌, length, replicate, slice_index, All, IsTrue, ◌↔◌, []};
 ghost use Rattle.worker_pool.specs.Shares.{GrewBy};
 

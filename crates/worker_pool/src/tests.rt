@@ -1,4 +1,5 @@
-// Rounds of a job whose blocks have one number each.
+// Rounds of a job whose blocks have one number each: that the loops run beside each other, that workers
+// steal, and what a round answers.
 ghost use Rattle.std.specs.Prelude.{◌≡◌, ℕ, ◌<◌, ◌≤◌, ◌%◌, ◌^◌, length, slice_index};
 ghost use Rattle.worker_pool.specs.Marks.{mark_of, mark_below};
 
@@ -6,15 +7,13 @@ use crate::gate::Gate;
 use crate::job::Job;
 use crate::pool::{Round, run_round};
 use crate::shares::Shares;
-use claim_table::Block;
+use claim_table::{Block, NOTHING_BAD};
 use std::alloc::Global;
 use std::sync::atomic::{AtomicU64, Ordering};
 use std::test::Fail;
 use std::thread::Threads;
 
-const NOTHING_BAD: u64 = u64::MAX;
-
-// For each block its bad number, or 2^64 - 1 where it has none.
+// For each block its bad number, or 2^64 - 1 if it has none.
 #[derive(Drop)]
 struct Marks<'a> {
     bad: &'a [u64],
@@ -60,38 +59,49 @@ impl Gate for Open {
     fn pass(&self, _worker: u32, _turn: u64) {}
 }
 
-// Holds worker 0 at turn 0 until worker 1 has come with turn 1, and worker 1 at turn 1 until
-// worker 0 has come with turn 0. Each pass is noted before the worker is held.
+// Holds worker 0 at one turn until worker 1 has come with a certain turn, and worker 1 likewise. Each
+// pass is noted before the worker is held, and so is that a worker was held in vain.
 #[derive(Drop)]
 struct Meet {
+    held_0_at: u64,
+    until_1_at: u64,
+    held_1_at: u64,
+    until_0_at: u64,
     turns_of_0: AtomicU64,
     turns_of_1: AtomicU64,
     gave_up: AtomicU64,
 }
 
 impl Meet {
-    fn new() -> Meet {
+    // Holds worker 0 at the first turn of the first pair until worker 1 comes with the second, and
+    // worker 1 at the first turn of the second pair until worker 0 comes with the second.
+    fn new(hold_0: (u64, u64), hold_1: (u64, u64)) -> Meet {
         Meet {
+            held_0_at: hold_0.0,
+            until_1_at: hold_0.1,
+            held_1_at: hold_1.0,
+            until_0_at: hold_1.1,
             turns_of_0: AtomicU64::new(0),
             turns_of_1: AtomicU64::new(0),
             gave_up: AtomicU64::new(0),
         }
     }
 
-    // Waits until this many turns have come, for a bounded number of looks.
+    // Waits until more than this many turns have come, for a bounded number of looks.
     fn hold(&self, turns: &AtomicU64, wanted: u64) {
         for _ in 0..1_000_000_000u64 {
-            if turns.load(Ordering::SeqCst) >= wanted {
+            if turns.load(Ordering::SeqCst) > wanted {
                 return;
             }
         }
         self.gave_up.store(1, Ordering::SeqCst);
     }
 
+    // Nobody was held in vain, and both named passes came.
     fn have_met(&self) -> bool {
         self.gave_up.load(Ordering::SeqCst) == 0
-            && self.turns_of_0.load(Ordering::SeqCst) >= 1
-            && self.turns_of_1.load(Ordering::SeqCst) >= 2
+            && self.turns_of_0.load(Ordering::SeqCst) > self.until_0_at
+            && self.turns_of_1.load(Ordering::SeqCst) > self.until_1_at
     }
 }
 
@@ -100,13 +110,13 @@ impl Gate for Meet {
         let turns = turn.saturating_add(1);
         if worker == 0 {
             self.turns_of_0.fetch_max(turns, Ordering::SeqCst);
-            if turn == 0 {
-                self.hold(&self.turns_of_1, 2);
+            if turn == self.held_0_at {
+                self.hold(&self.turns_of_1, self.until_1_at);
             }
         } else {
             self.turns_of_1.fetch_max(turns, Ordering::SeqCst);
-            if turn == 1 {
-                self.hold(&self.turns_of_0, 1);
+            if turn == self.held_1_at {
+                self.hold(&self.turns_of_0, self.until_0_at);
             }
         }
     }
@@ -182,15 +192,32 @@ fn shares_agree(played: &Played) -> bool {
     true
 }
 
+// A pool that runs one loop to its end before the other, in either order, gives up.
 #[test]
 fn two_loops_run_beside_each_other(rt: HostRuntime) -> Result<(), Fail> {
-    let gate = Meet::new();
+    let gate = Meet::new((0, 1), (1, 0));
     let played = play(&rt, rt.alloc(), &[NOTHING_BAD; 88], 2, &gate)?;
     assert!(rt;
         gate.have_met(),
         "a worker was held, and the other did not come"
     );
     assert_eq!(rt; worked(played.parts.as_slice()), (88, 3828));
+    Ok(())
+}
+
+// Worker 1 starts with 44 of the 88 blocks, and its turn 45 comes only after it has taken 45. So a
+// pool whose workers never steal gives up here. One take of worker 0 comes before all of worker 1,
+// and then worker 0 is held, so that no take of it falls into a cut.
+#[test]
+fn a_worker_steals_what_another_leaves(rt: HostRuntime) -> Result<(), Fail> {
+    let gate = Meet::new((1, 45), (0, 1));
+    let played = play(&rt, rt.alloc(), &[NOTHING_BAD; 88], 2, &gate)?;
+    assert!(rt;
+        gate.have_met(),
+        "a worker was held, and the other did not come"
+    );
+    assert_eq!(rt; worked(played.parts.as_slice()), (88, 3828));
+    assert!(rt; shares_agree(&played));
     Ok(())
 }
 

@@ -15,7 +15,8 @@ const NOTHING_BAD: u64 = u64::MAX;
 fn finish(board: Cursor, seats: Vec<CursorSeat>) -> Option<Closed>
     requires all { length seats.items ≡ (board_plan board).workers }
     requires seated { All (λ s. IsSeatOf s board) seats.items }
-    requires in_order { (k : ℕ) (d : CursorSeat) → k < length seats.items → (seat_record (slice_index_or seats.items k d)).worker ≡ k }
+    requires in_order { (k : ℕ) (d : CursorSeat) → k < length seats.items
+        → (seat_record (slice_index_or seats.items k d)).worker ≡ k }
 {
     for seat in &seats {
         if !seat.dry {
@@ -40,10 +41,12 @@ fn report_all(
     reports: &[(u32, u64)],
 ) -> Result<Vec<u64>, Fail>
     requires seated { All (λ s. IsSeatOf s board.now) seats.old.items }
-    requires in_order { (k : ℕ) (d : CursorSeat) → k < length seats.old.items → (seat_record (slice_index_or seats.old.items k d)).worker ≡ k }
+    requires in_order { (k : ℕ) (d : CursorSeat) → k < length seats.old.items
+        → (seat_record (slice_index_or seats.old.items k d)).worker ≡ k }
     ensures count { length seats.new.items ≡ length seats.old.items }
     ensures seated { All (λ s. IsSeatOf s board.now) seats.new.items }
-    ensures in_order { (k : ℕ) (d : CursorSeat) → k < length seats.new.items → (seat_record (slice_index_or seats.new.items k d)).worker ≡ k }
+    ensures in_order { (k : ℕ) (d : CursorSeat) → k < length seats.new.items
+        → (seat_record (slice_index_or seats.new.items k d)).worker ≡ k }
 {
     let mut seens = Vec::new(alloc);
     for &(worker, number) in reports {
@@ -64,10 +67,12 @@ fn take_all(
     order: &[u32],
 ) -> Result<Vec<Option<u32>>, Fail>
     requires seated { All (λ s. IsSeatOf s board.now) seats.old.items }
-    requires in_order { (k : ℕ) (d : CursorSeat) → k < length seats.old.items → (seat_record (slice_index_or seats.old.items k d)).worker ≡ k }
+    requires in_order { (k : ℕ) (d : CursorSeat) → k < length seats.old.items
+        → (seat_record (slice_index_or seats.old.items k d)).worker ≡ k }
     ensures count { length seats.new.items ≡ length seats.old.items }
     ensures seated { All (λ s. IsSeatOf s board.now) seats.new.items }
-    ensures in_order { (k : ℕ) (d : CursorSeat) → k < length seats.new.items → (seat_record (slice_index_or seats.new.items k d)).worker ≡ k }
+    ensures in_order { (k : ℕ) (d : CursorSeat) → k < length seats.new.items
+        → (seat_record (slice_index_or seats.new.items k d)).worker ≡ k }
 {
     let mut answers = Vec::new(alloc);
     for &worker in order {

@@ -10,5 +10,6 @@ invariant-loop-seat l = record {
   table : l.all.table_id ≡ l.table.shared.table_id;
   records : l.all.me.0.records ≡ map seat_record l.yielded;
   len : length l.owners ≡ length l.initial.owners;
-  owners : (b : ℕ) → b < length l.initial.owners → get_or l.owners b 0 ≡ owner_after b (map seat_record l.yielded) (get_or l.initial.owners b 0);
+  owners : (b : ℕ) → b < length l.initial.owners
+      → get_or l.owners b 0 ≡ owner_after b (map seat_record l.yielded) (get_or l.initial.owners b 0);
 }
