@@ -1,9 +1,8 @@
 //! The words of the command line, as the host gives them.
 
-use std::env;
-use std::io;
 use std::io::ErrorKind;
 use std::rt::Env;
+use std::{env, io};
 
 /// Why the words of the command line were not read.
 #[derive(Clone, Copy, Debug, PartialEq, Eq, Drop)]
