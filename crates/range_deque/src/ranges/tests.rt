@@ -58,6 +58,23 @@ fn make_step(seat: &mut RangeSeat, board: &Ranges, step: Step) -> Answer
     }
 }
 
+// One step of this worker's seat, if there is one.
+fn step_of(seats: &mut Vec<RangeSeat>, board: &Ranges, worker: u32, step: Step) -> Answer
+    requires seated { All (λ s. IsSeatOf s board.now) seats.old.items }
+    requires in_order { (k : ℕ) (d : RangeSeat) → k < length seats.old.items
+        → (seat_record (slice_index_or seats.old.items k d)).worker ≡ k }
+    ensures count { length seats.new.items ≡ length seats.old.items }
+    ensures seated { All (λ s. IsSeatOf s board.now) seats.new.items }
+    ensures in_order { (k : ℕ) (d : RangeSeat) → k < length seats.new.items
+        → (seat_record (slice_index_or seats.new.items k d)).worker ≡ k }
+{
+    if (worker as usize) < seats.len() {
+        make_step(&mut seats[worker as usize], board, step)
+    } else {
+        Answer::Refused
+    }
+}
+
 // What these steps answer, one after another.
 fn play(
     alloc: Global,
@@ -75,10 +92,8 @@ fn play(
 {
     let mut answers = Vec::new(alloc);
     for &(worker, next) in steps {
-        if (worker as usize) < seats.len() {
-            let answer = make_step(&mut seats[worker as usize], board, next);
-            answers.push(answer)?;
-        }
+        let answer = step_of(seats, board, worker, next);
+        answers.push(answer)?;
     }
     Ok(answers)
 }
