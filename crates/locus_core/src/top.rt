@@ -60,7 +60,8 @@ pub fn locus<F: Files, O: Sink, E: Sink>(
     ensures refused { IsReadStatus result.status → ForFile (F.content files.old) (map string_bytes words.now)
         (Reads (λ read. (result.status ≡ 3) ↔ IsErr read)) }
 
-    // If the text of a sum was printed, its bytes write one, and status 4 comes exactly if some decorated tree is bad.
+    // If the text of a sum was printed, the bytes of the file write a problem, and status 4 comes exactly if some
+    // decorated tree of it is bad.
     ensures bad { IsSumStatus result.status → ForFile (F.content files.old) (map string_bytes words.now)
         (Reads (IsProblem (λ problem. (result.status ≡ 4) ↔ HasBadTree problem))) }
 
