@@ -1,0 +1,7 @@
+pub mod Digits
+pub mod Strides
+pub mod OneToOne
+pub mod Words
+pub mod Views
+pub mod Moves
+mod Worked

@@ -1,0 +1,28 @@
+-- What a table and a seat mean to a caller.
+use Rattle.std.specs.Prelude.{◌≡◌, ℕ, List, Contains}
+use Rattle.factor_table.specs.declared.key.Key.{Key}
+use Rattle.factor_table.specs.declared.parameters.Parameters.{Parameters}
+use Rattle.factor_table.specs.declared.table.FactorTable.{FactorTable}
+use Rattle.factor_table.specs.declared.table.FactorSeat.{FactorSeat}
+use Rattle.factor_table.specs.Places.{place_of}
+use Rattle.factor_table.specs.Factors.{sizes_of}
+
+-- what the factors of the table are of, which no call changes
+abbrev pub parameters_of : FactorTable → Parameters
+parameters_of t = t.parameters
+
+-- how many words the table has
+abbrev pub word_count : FactorTable → ℕ
+word_count t = t.table.shared.table_id.words
+
+-- the seat is one of this table
+abbrev pub IsSeatOf : FactorSeat → FactorTable → Type 0
+IsSeatOf s t = (s.seat.table_id ≡ t.table.shared.table_id) × (s.seat.me.0.parameters ≡ t.parameters)
+
+-- the places of the words that the seat knows to be filled, in the order in which it came to know them
+abbrev pub known_of : FactorSeat → List ℕ
+known_of s = s.seat.me.0.known
+
+-- the seat knows the word of a key for the modulus at an index, in a table of these parameters
+abbrev pub Knows : Parameters → FactorSeat → Key → ℕ → Type 0
+Knows p s key modulus = Contains (known_of s) (place_of (sizes_of p) key modulus)
