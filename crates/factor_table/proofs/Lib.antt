@@ -4,4 +4,5 @@ pub mod OneToOne
 pub mod Words
 pub mod Views
 pub mod Moves
+pub mod Keys
 mod Worked

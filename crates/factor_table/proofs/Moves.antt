@@ -98,3 +98,14 @@ joins S p id v other w s h at differ there =
     let both = fits_joined p s.words v w (fit id v at) (fit other w (other_view s.views id other (joined v w) w differ there)) in
     let first = after_set p s.words s.views id (joined v w) fit both in
     with_views p s.words s.views (set (set s.views id (joined v w)) other spent) h (after_set p s.words (set s.views id (joined v w)) other spent first (fits_spent p s.words))
+
+-- ---- the same steps, for a table that was told these parameters
+
+pub looks_told : (S : Type 0) (q p : Parameters) (slots id place : ℕ) (me : Me S View) → q ≡ p → me.0.parameters ≡ p → first_factor (sizes_of p) ≤ place
+    → Allows (Holds {S = S} q) slots id me place (λ n. n) (Looks (step slots place 0 0 none) me)
+looks_told S q p slots id place me e told from = subst (λ k. Allows (Holds {S = S} k) slots id me place (λ n. n) (Looks (step slots place 0 0 none) me)) (sym e) (looks S p slots id place me told from)
+
+pub fills_told : (S : Type 0) (q p : Parameters) (slots id place word : ℕ) (me : Me S View) → q ≡ p → first_factor (sizes_of p) ≤ place → place < words_of (sizes_of p) → word ≢ 0 → IsFactorAt p place word
+    → Allows (Holds {S = S} q) slots id me place (λ n. either (eqb n 0) word n) (Fills (step slots place 0 word none) me)
+fills_told S q p slots id place word me e from below some_there is =
+    subst (λ k. Allows (Holds {S = S} k) slots id me place (λ n. either (eqb n 0) word n) (Fills (step slots place 0 word none) me)) (sym e) (fills S p slots id place word me from below some_there is)

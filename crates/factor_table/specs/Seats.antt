@@ -15,6 +15,10 @@ parameters_of t = t.parameters
 abbrev pub word_count : FactorTable → ℕ
 word_count t = t.table.shared.table_id.words
 
+-- the place of the word of a key for the modulus at an index
+abbrev pub place_in : FactorTable → Key → ℕ → ℕ
+place_in t key modulus = place_of (sizes_of (parameters_of t)) key modulus
+
 -- the seat is one of this table
 abbrev pub IsSeatOf : FactorSeat → FactorTable → Type 0
 IsSeatOf s t = (s.seat.table_id ≡ t.table.shared.table_id) × (s.seat.me.0.parameters ≡ t.parameters)
@@ -23,6 +27,6 @@ IsSeatOf s t = (s.seat.table_id ≡ t.table.shared.table_id) × (s.seat.me.0.par
 abbrev pub known_of : FactorSeat → List ℕ
 known_of s = s.seat.me.0.known
 
--- the seat knows the word of a key for the modulus at an index, in a table of these parameters
-abbrev pub Knows : Parameters → FactorSeat → Key → ℕ → Type 0
-Knows p s key modulus = Contains (known_of s) (place_of (sizes_of p) key modulus)
+-- the seat knows the word of a key for the modulus at an index
+abbrev pub Knows : FactorSeat → FactorTable → Key → ℕ → Type 0
+Knows s t key modulus = Contains (known_of s) (place_in t key modulus)

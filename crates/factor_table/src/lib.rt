@@ -11,10 +11,13 @@
 
 mod key;
 mod layout;
+mod lookups;
 mod parameters;
+mod plain;
 mod table;
 
 pub use key::Key;
-pub use layout::Layout;
+pub use layout::{Layout, Sizes};
 pub use parameters::{Classes, Parameters};
+pub use plain::tip;
 pub use table::{FactorSeat, FactorTable};

@@ -1,7 +1,10 @@
-//! The table and its seats.
+//! The table, its seats and its rule.
 
-ghost use Rattle.std.specs.Prelude.{◌≡◌, ℕ, ◌+◌, ◌<◌, ◌≤◌, ◌^◌, List, [], ◌∷◌, ◌++◌, length, All, IfOk};
+ghost use Rattle.std.specs.Prelude.{◌≡◌, ℕ, ◌<◌, ◌^◌, length, slice_index};
+ghost use Rattle.factor_table.specs.Places.{words_of};
+ghost use Rattle.factor_table.specs.Factors.{sizes_of};
 
+use crate::layout::Layout;
 use crate::parameters::Parameters;
 use atomic_table::{Join, Play, Seat, Split, Table, TableRule};
 use std::alloc::Global;
@@ -24,7 +27,7 @@ impl TableRule<(), View, Parameters> for FactorRule {
     ghost first = { opening_view };
 }
 
-struct Look;
+pub(crate) struct Look;
 
 impl Play<(), View> for Look {
     ghost use Rattle.factor_table.specs.Rule.{Looks};
@@ -32,7 +35,7 @@ impl Play<(), View> for Look {
     ghost then = { Looks };
 }
 
-struct Fill;
+pub(crate) struct Fill;
 
 impl Play<(), View> for Fill {
     ghost use Rattle.factor_table.specs.Rule.{Fills};
@@ -40,7 +43,7 @@ impl Play<(), View> for Fill {
     ghost then = { Fills };
 }
 
-struct Divide;
+pub(crate) struct Divide;
 
 impl Split<View> for Divide {
     ghost use Rattle.factor_table.specs.Rule.{same};
@@ -50,7 +53,7 @@ impl Split<View> for Divide {
     ghost right = { same };
 }
 
-struct Gather;
+pub(crate) struct Gather;
 
 impl Join<View> for Gather {
     ghost use Rattle.factor_table.specs.Rule.{joined, spent};
@@ -60,22 +63,26 @@ impl Join<View> for Gather {
     ghost spent = { spent };
 }
 
-type Words = Table<(), View, Parameters, FactorRule, Global>;
+pub(crate) type Words = Table<(), View, Parameters, FactorRule, Global>;
 
 /// The factors of a sum, each computed once, by whichever worker needs it first.
 ///
 /// The rule of `specs/Rule.antt` ties each word to its key, and holds between any two steps of all seats.
 #[derive(Drop)]
 pub struct FactorTable {
-    table: Words,
-    parameters: Parameters,
+    pub(crate) table: Words,
+    pub(crate) parameters: Parameters,
+    pub(crate) layout: Layout,
     ghost told: { table.shared.key ≡ parameters },
     ghost no_slots: { table.shared.table_id.slots ≡ 0 },
+    ghost laid_out: { layout.sizes ≡ sizes_of parameters },
+    ghost counted: { table.shared.table_id.words ≡ words_of (sizes_of parameters) },
+    ghost moduli_limited: { (index : ℕ) → index < length parameters.moduli → slice_index parameters.moduli index < 2 ^ 62 },
 }
 
 /// The seat of one worker at a [`FactorTable`].
 #[derive(Drop)]
 pub struct FactorSeat {
-    seat: Seat<(), View>,
+    pub(crate) seat: Seat<(), View>,
     ghost no_slot: { length seat.me.1 ≡ 0 },
 }

@@ -1,0 +1,130 @@
+//! How a worker asks the table for a factor.
+//!
+//! Each call loads one word. Where it finds 0, the factor is computed and the word is filled by one `compare_exchange`,
+//! which another worker may have done meanwhile: then the word is the same.
+
+ghost use Rattle.std.specs.Prelude.{◌≡◌, ℕ, ◌+◌, ◌<◌, ◌^◌, [], ◌∷◌, ◌++◌, length, pos, IfOk};
+ghost use Rattle.arithmetic.specs.Fractions.{Fraction, fraction};
+ghost use Rattle.residue.specs.Answers.{GivesResidue};
+ghost use Rattle.localisation.specs.Weights.{tangent_product};
+ghost use Rattle.localisation.specs.EdgeFraction.{edge_fraction};
+ghost use Rattle.localisation.specs.VertexFraction.{plain_vertex};
+ghost use Rattle.localisation.specs.ClassValue.{class_edge, class_vertex};
+ghost use Rattle.vertex_factor.specs.Ends.{end, flag_fraction};
+ghost use Rattle.factor_table.specs.declared.key.Key.{Key};
+ghost use Rattle.factor_table.specs.Places.{place_of};
+ghost use Rattle.factor_table.specs.Factors.{sizes_of, modulus_at, class_at, IsKeyOf, fraction_of, tip_fraction, IsWordOf, word_of};
+ghost use Rattle.factor_table.specs.Seats.{parameters_of, IsSeatOf, known_of, place_in};
+
+use crate::key::Key;
+use crate::table::{FactorSeat, FactorTable, Fill, Look};
+use residue::NoUnit;
+
+impl FactorTable {
+    /// The residue of the factor of a key for the modulus at an index. Afterwards the seat knows its word.
+    ///
+    /// # Errors
+    /// `NoUnit` exactly where the bottom of the factor's fraction and the modulus have a common divisor above 1.
+    pub fn factor(&self, seat: &mut FactorSeat, key: &Key, modulus: u8) -> Result<u64, NoUnit>
+        requires seat { IsSeatOf seat.old self.now }
+        requires key { IsKeyOf (parameters_of self.now) key.now }
+        requires modulus { modulus < length (parameters_of self.now).moduli }
+        ensures value { GivesResidue (modulus_at (parameters_of self.now) modulus) (fraction_of (parameters_of self.now) key.now) result }
+        ensures seat { IsSeatOf seat.new self.now }
+        ensures known { known_of seat.new ≡ known_of seat.old ++ place_in self.now key.now modulus ∷ [] }
+    {
+        let place = self.layout.place(*key, modulus);
+        self.at_place(seat, place, *key, modulus)
+    }
+
+    /// The factor of `Key::Edge`.
+    #[inline]
+    pub fn edge(&self, seat: &mut FactorSeat, i: u8, j: u8, a: u8, modulus: u8) -> Result<u64, NoUnit>
+        requires seat { IsSeatOf seat.old self.now }
+        requires key { IsKeyOf (parameters_of self.now) (Key.Edge i j a) }
+        requires modulus { modulus < length (parameters_of self.now).moduli }
+        ensures value { GivesResidue (modulus_at (parameters_of self.now) modulus) (edge_fraction (parameters_of self.now).setup i j a) result }
+        ensures seat { IsSeatOf seat.new self.now }
+        ensures known { known_of seat.new ≡ known_of seat.old ++ place_in self.now (Key.Edge i j a) modulus ∷ [] }
+    {
+        let place = self.layout.edge(i, j, a, modulus);
+        self.at_place(seat, place, Key::Edge { i, j, a }, modulus)
+    }
+
+    // The factor of a key whose word is at this place.
+    #[inline]
+    fn at_place(
+        &self,
+        seat: &mut FactorSeat,
+        place: usize,
+        key: Key,
+        modulus: u8,
+    ) -> Result<u64, NoUnit>
+        requires seat { IsSeatOf seat.old self.now }
+        requires key { IsKeyOf (parameters_of self.now) key }
+        requires modulus { modulus < length (parameters_of self.now).moduli }
+        requires place { place ≡ place_in self.now key modulus }
+        ensures value { GivesResidue (modulus_at (parameters_of self.now) modulus) (fraction_of (parameters_of self.now) key) result }
+        ensures seat { IsSeatOf seat.new self.now }
+        ensures known { known_of seat.new ≡ known_of seat.old ++ place_in self.now key modulus ∷ [] }
+    {
+        let found = self.table.shared.load::<Look>(&mut seat.seat, place);
+        if found == 0 {
+            self.fill(seat, place, key, modulus)
+        } else {
+            answer_of(found)
+        }
+    }
+
+    // Computes the factor of a key and fills its word, which is at this place.
+    #[cold]
+    #[inline(never)]
+    fn fill(
+        &self,
+        seat: &mut FactorSeat,
+        place: usize,
+        key: Key,
+        modulus: u8,
+    ) -> Result<u64, NoUnit>
+        requires seat { IsSeatOf seat.old self.now }
+        requires key { IsKeyOf (parameters_of self.now) key }
+        requires modulus { modulus < length (parameters_of self.now).moduli }
+        requires place { place ≡ place_in self.now key modulus }
+        ensures value { GivesResidue (modulus_at (parameters_of self.now) modulus) (fraction_of (parameters_of self.now) key) result }
+        ensures seat { IsSeatOf seat.new self.now }
+        ensures known { known_of seat.new ≡ known_of seat.old ++ place_in self.now key modulus ∷ [] }
+    {
+        let modulo = self.parameters.moduli.get(modulus as usize);
+        let answer = self.parameters.factor(key, modulo);
+        let word = word_for(answer, modulo.get());
+        self.table
+            .shared
+            .compare_exchange::<Fill>(&mut seat.seat, place, 0, word);
+        answer
+    }
+}
+
+// The word of an answer below the modulus.
+fn word_for(answer: Result<u64, NoUnit>, modulus: u64) -> u64
+    requires modulus { modulus < 2 ^ 62 }
+    requires answer { IfOk answer (λ x. x < modulus) }
+    ensures { result ≡ word_of answer }
+{
+    match answer {
+        Ok(residue) => residue + 1,
+        Err(NoUnit) => u64::MAX,
+    }
+}
+
+// The answer that a word stands for which is not 0.
+#[inline]
+fn answer_of(word: u64) -> Result<u64, NoUnit>
+    requires { 0 < word }
+    ensures { (m : ℕ) (f : Fraction) → m < 2 ^ 62 → IsWordOf m f word → GivesResidue m f result }
+{
+    if word == u64::MAX {
+        Err(NoUnit)
+    } else {
+        Ok(word - 1)
+    }
+}
