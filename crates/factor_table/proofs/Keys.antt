@@ -8,8 +8,9 @@ use Rattle.residue.specs.declared.class.Class.{Class}
 use Rattle.residue.specs.declared.class.Class.TheVariants.{Contact}
 use Rattle.residue.specs.Answers.{GivesResidue}
 use Rattle.factor_table.specs.declared.key.Key.{Key}
+use Rattle.factor_table.specs.declared.layout.Sizes.{Sizes}
 use Rattle.factor_table.specs.declared.parameters.Parameters.{Parameters}
-use Rattle.factor_table.specs.Places.{first_factor, words_of, place_of}
+use Rattle.factor_table.specs.Places.{AreWithinLimits, first_factor, words_of, place_of}
 use Rattle.factor_table.specs.Factors.{sizes_of, modulus_at, class_at, fraction_of, IsKeyOf, IsWordOf, word_of}
 use Rattle.factor_table.specs.Rule.{IsFactorAt}
 use Rattle.factor_table.proofs.OneToOne.{place_from, place_below, one_to_one}
@@ -43,3 +44,8 @@ found p key m place word k lt at f =
 
 pub class_there : (p : Parameters) (index : ℕ) (class : Class) → slice_get p.classes index ≡ Some class → class_at p index ≡ class
 class_there p index class get = get_or_from_slice_get p.classes index class Contact get
+
+-- a table has a word
+pub some_word : (p : Parameters) (s : Sizes) (n : ℕ) → AreWithinLimits s → s ≡ sizes_of p → n ≡ words_of (sizes_of p) → 0 < n
+unfolding words_of
+some_word p s n limits same count = let colours : s.colours ≡ length p.setup = ap (λ (t : Sizes). t.colours) same in let some_colour = limits.some_colour in omega arith

@@ -5,4 +5,6 @@ pub mod Words
 pub mod Views
 pub mod Moves
 pub mod Keys
+pub mod Refusals
+pub mod Lists
 mod Worked

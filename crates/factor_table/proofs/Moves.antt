@@ -1,6 +1,7 @@
 -- Each step keeps the rule of the factor words.
-use Rattle.std.proofs.Common.{◌≡◌, ◌≢◌, ℕ, zero, suc, ◌+◌, ◌<◌, ◌≤◌, ◌⊎◌, inl, inr, ⊎_elim, eqb, List, [], ◌∷◌, ◌++◌, length, replicate, take, set, get_or, sym, refl, subst, ap, ◌∙◌, arith, length-append}
-use Rattle.std.proofs.lemmas.List.{length-set, get_or-set_same, get_or-set_other, set-get_or, take-set-le}
+use Rattle.std.proofs.Common.{◌≡◌, ◌≢◌, ℕ, zero, suc, ◌+◌, ◌-◌, ◌<◌, ◌≤◌, ◌⊎◌, inl, inr, ⊎_elim, eqb, List, [], ◌∷◌, ◌++◌, length, replicate, take, set, get_or, sym, refl, subst, ap, ◌∙◌, arith, length-append, map}
+use Rattle.std.proofs.lemmas.List.{length-set, get_or-set_same, get_or-set_other, set-get_or, take-set-le, length-map}
+use Rattle.std.proofs.Math.Seq.{take-append_seam, get_or-append_right}
 use mathlib.Core.Option.{some, none}
 use mathlib.Core.Logic.{dite}
 use native.Mathlib.Decide.{ℕ_discrete}
@@ -8,6 +9,7 @@ use lib.ListN.{get_elem?}
 use prog.Atomic.{either}
 use Rattle.atomic_table.specs.Table.{State, Me, Step, step, Act, keeps, opening, Allows, Splits, Joins}
 use Rattle.atomic_table.proofs.Lists.{at_set, exchanged}
+use Rattle.arithmetic.specs.Numbers.{reduce}
 use Rattle.factor_table.specs.declared.parameters.Parameters.{Parameters}
 use Rattle.factor_table.specs.declared.table.View.{View}
 use Rattle.factor_table.specs.Places.{first_factor, words_of}
@@ -28,6 +30,11 @@ with_views p words views after h fit = record {
 factor_found : (p : Parameters) (place word : ℕ) → (word ≡ 0) ⊎ IsFactorAt p place word → word ≢ 0 → IsFactorAt p place word
 factor_found p place word (inl z) some_there = absurd (some_there z)
 factor_found p place word (inr f) some_there = f
+
+zero_there : (n i : ℕ) → get_or {A = ℕ} (replicate n 0) i 0 ≡ 0
+zero_there zero i = refl
+zero_there (suc n) zero = refl
+zero_there (suc n) (suc i) = zero_there n i
 
 -- a load changes no word
 pub looks : (S : Type 0) (p : Parameters) (slots id place : ℕ) (me : Me S View) → me.0.parameters ≡ p → first_factor (sizes_of p) ≤ place
@@ -98,6 +105,19 @@ joins S p id v other w s h at differ there =
     let both = fits_joined p s.words v w (fit id v at) (fit other w (other_view s.views id other (joined v w) w differ there)) in
     let first = after_set p s.words s.views id (joined v w) fit both in
     with_views p s.words s.views (set (set s.views id (joined v w)) other spent) h (after_set p s.words (set s.views id (joined v w)) other spent first (fits_spent p s.words))
+
+-- a table in which no word is filled
+pub opens : (S : Type 0) (p : Parameters) (words : List ℕ) (n : ℕ) → words ≡ first_words p ++ replicate n 0 → length words ≡ words_of (sizes_of p)
+    → Holds {S = S} p (opening words [] (opening_view p))
+opens S p words n e count =
+    let fit = only_view p words (opening_view p) (fits_opening p words) in
+    let long : length (first_words p) ≡ first_factor (sizes_of p) = length-append (map (reduce 18446744073709551616) p.setup) p.moduli ∙ ap (λ k. k + length p.moduli) (length-map p.setup (reduce 18446744073709551616)) in record {
+      count = count;
+      first = (ap (λ ws. take (first_factor (sizes_of p)) ws) e ∙ ap (λ k. take k (first_words p ++ replicate n 0)) (sym long) ∙ take-append_seam (first_words p) (replicate n 0));
+      factors = (λ place from. inl (ap (λ ws. get_or ws place 0) e ∙ get_or-append_right (first_words p) (replicate n 0) place 0 (omega arith) ∙ zero_there n (place - length (first_words p))));
+      told = (λ j u at. (fit j u at).told);
+      known = (λ j u at. (fit j u at).known);
+    }
 
 -- ---- the same steps, for a table that was told these parameters
 

@@ -5,8 +5,9 @@ use Rattle.factor_table.specs.declared.layout.Sizes.{Sizes}
 use Rattle.factor_table.specs.declared.layout.Strides.{Strides}
 use Rattle.factor_table.specs.declared.key.Key.TheVariants.{Edge, Flag, Tangent, Pair, ClassEdge, ClassVertex, Tip}
 
--- the limits: rank 1 to 12, degree 1 to 10, 1 to 8 moduli, at most 512 classes
+-- the limits: 1 to 13 colours, degree at most 10, at most 8 moduli and 512 classes
 pub record AreWithinLimits (s : Sizes) : Type 0 where
+  pub some_colour : 1 ≤ s.colours
   pub colours_limited : s.colours ≤ 13
   pub degree_limited : s.degree ≤ 10
   pub moduli_limited : s.moduli ≤ 8

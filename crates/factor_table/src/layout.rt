@@ -10,7 +10,7 @@ use crate::key::Key;
 /// How many of each a table is of.
 #[derive(Clone, Copy, Debug, PartialEq, Eq, Drop)]
 pub struct Sizes {
-    /// The number of colours, at most 13.
+    /// The number of colours, from 1 to 13.
     pub colours: usize,
     /// The greatest degree, at most 10.
     pub degree: usize,

@@ -9,11 +9,14 @@
 //! list of the places of words that it has seen filled.
 #![tactic(auto)]
 
+mod copies;
 mod key;
 mod layout;
 mod lookups;
+mod opening;
 mod parameters;
 mod plain;
+mod seats;
 mod table;
 
 pub use key::Key;

@@ -4,7 +4,7 @@
 //! which another worker may have done meanwhile: then the word is the same.
 
 ghost use Rattle.std.specs.Prelude.{◌≡◌, ℕ, ◌+◌, ◌<◌, ◌^◌, [], ◌∷◌, ◌++◌, length, pos, IfOk};
-ghost use Rattle.arithmetic.specs.Fractions.{Fraction, fraction};
+ghost use Rattle.arithmetic.specs.Fractions.{Fraction, fraction, IsResidue};
 ghost use Rattle.residue.specs.Answers.{GivesResidue};
 ghost use Rattle.localisation.specs.Weights.{tangent_product};
 ghost use Rattle.localisation.specs.EdgeFraction.{edge_fraction};
@@ -49,6 +49,93 @@ impl FactorTable {
     {
         let place = self.layout.edge(i, j, a, modulus);
         self.at_place(seat, place, Key::Edge { i, j, a }, modulus)
+    }
+
+    /// The factor of `Key::Flag`.
+    #[inline]
+    pub fn flag(&self, seat: &mut FactorSeat, c: u8, u: u8, a: u8, modulus: u8) -> Result<u64, NoUnit>
+        requires seat { IsSeatOf seat.old self.now }
+        requires key { IsKeyOf (parameters_of self.now) (Key.Flag c u a) }
+        requires modulus { modulus < length (parameters_of self.now).moduli }
+        ensures value { GivesResidue (modulus_at (parameters_of self.now) modulus) (flag_fraction (parameters_of self.now).setup c u a) result }
+        ensures seat { IsSeatOf seat.new self.now }
+        ensures known { known_of seat.new ≡ known_of seat.old ++ place_in self.now (Key.Flag c u a) modulus ∷ [] }
+    {
+        let place = self.layout.flag(c, u, a, modulus);
+        self.at_place(seat, place, Key::Flag { c, u, a }, modulus)
+    }
+
+    /// The factor of `Key::Tip`.
+    #[inline]
+    pub fn tip(&self, seat: &mut FactorSeat, c: u8, u: u8, a: u8, modulus: u8) -> Result<u64, NoUnit>
+        requires seat { IsSeatOf seat.old self.now }
+        requires key { IsKeyOf (parameters_of self.now) (Key.Tip c u a) }
+        requires modulus { modulus < length (parameters_of self.now).moduli }
+        ensures value { GivesResidue (modulus_at (parameters_of self.now) modulus) (tip_fraction (parameters_of self.now).setup c u a) result }
+        ensures seat { IsSeatOf seat.new self.now }
+        ensures known { known_of seat.new ≡ known_of seat.old ++ place_in self.now (Key.Tip c u a) modulus ∷ [] }
+    {
+        let place = self.layout.tip(c, u, a, modulus);
+        self.at_place(seat, place, Key::Tip { c, u, a }, modulus)
+    }
+
+    /// The factor of `Key::Pair`.
+    #[inline]
+    pub fn pair(&self, seat: &mut FactorSeat, c: u8, c1: u8, a1: u8, c2: u8, a2: u8, modulus: u8) -> Result<u64, NoUnit>
+        requires seat { IsSeatOf seat.old self.now }
+        requires key { IsKeyOf (parameters_of self.now) (Key.Pair c c1 a1 c2 a2) }
+        requires modulus { modulus < length (parameters_of self.now).moduli }
+        ensures value { GivesResidue (modulus_at (parameters_of self.now) modulus) (plain_vertex (parameters_of self.now).setup c (end c1 a1 ∷ end c2 a2 ∷ []) 0) result }
+        ensures seat { IsSeatOf seat.new self.now }
+        ensures known { known_of seat.new ≡ known_of seat.old ++ place_in self.now (Key.Pair c c1 a1 c2 a2) modulus ∷ [] }
+    {
+        let place = self.layout.pair(c, c1, a1, c2, a2, modulus);
+        self.at_place(seat, place, Key::Pair { c, c1, a1, c2, a2 }, modulus)
+    }
+
+    /// The factor of `Key::ClassEdge`.
+    #[inline]
+    pub fn class_edge(&self, seat: &mut FactorSeat, class: u16, i: u8, j: u8, a: u8, modulus: u8) -> Result<u64, NoUnit>
+        requires seat { IsSeatOf seat.old self.now }
+        requires key { IsKeyOf (parameters_of self.now) (Key.ClassEdge class i j a) }
+        requires modulus { modulus < length (parameters_of self.now).moduli }
+        ensures value { GivesResidue (modulus_at (parameters_of self.now) modulus) (class_edge (parameters_of self.now).setup (class_at (parameters_of self.now) class) i j a) result }
+        ensures seat { IsSeatOf seat.new self.now }
+        ensures known { known_of seat.new ≡ known_of seat.old ++ place_in self.now (Key.ClassEdge class i j a) modulus ∷ [] }
+    {
+        let place = self.layout.class_edge(class, i, j, a, modulus);
+        self.at_place(seat, place, Key::ClassEdge { class, i, j, a }, modulus)
+    }
+
+    /// The factor of `Key::ClassVertex`.
+    #[inline]
+    pub fn class_vertex(&self, seat: &mut FactorSeat, class: u16, c: u8, s: u8, modulus: u8) -> Result<u64, NoUnit>
+        requires seat { IsSeatOf seat.old self.now }
+        requires key { IsKeyOf (parameters_of self.now) (Key.ClassVertex class c s) }
+        requires modulus { modulus < length (parameters_of self.now).moduli }
+        ensures value { GivesResidue (modulus_at (parameters_of self.now) modulus) (class_vertex (parameters_of self.now).setup (class_at (parameters_of self.now) class) c s) result }
+        ensures seat { IsSeatOf seat.new self.now }
+        ensures known { known_of seat.new ≡ known_of seat.old ++ place_in self.now (Key.ClassVertex class c s) modulus ∷ [] }
+    {
+        let place = self.layout.class_vertex(class, c, s, modulus);
+        self.at_place(seat, place, Key::ClassVertex { class, c, s }, modulus)
+    }
+
+    /// The factor of `Key::Tangent`, which always has a residue.
+    #[inline]
+    pub fn tangent(&self, seat: &mut FactorSeat, c: u8, modulus: u8) -> u64
+        requires seat { IsSeatOf seat.old self.now }
+        requires key { IsKeyOf (parameters_of self.now) (Key.Tangent c) }
+        requires modulus { modulus < length (parameters_of self.now).moduli }
+        ensures value { IsResidue (modulus_at (parameters_of self.now) modulus) (fraction (tangent_product (parameters_of self.now).setup c) (pos 1)) result }
+        ensures seat { IsSeatOf seat.new self.now }
+        ensures known { known_of seat.new ≡ known_of seat.old ++ place_in self.now (Key.Tangent c) modulus ∷ [] }
+    {
+        let place = self.layout.tangent(c, modulus);
+        match self.at_place(seat, place, Key::Tangent { c }, modulus) {
+            Ok(residue) => residue,
+            Err(NoUnit) => unreachable!(),
+        }
     }
 
     // The factor of a key whose word is at this place.
