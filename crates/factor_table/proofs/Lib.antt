@@ -7,4 +7,5 @@ pub mod Moves
 pub mod Keys
 pub mod Refusals
 pub mod Lists
+pub mod Laws
 mod Worked

@@ -1,5 +1,5 @@
 -- Lists that are copied item by item.
-use Rattle.std.proofs.Common.{◌≡◌, ℕ, ◌+◌, ◌-◌, ◌<◌, ◌≤◌, List, [], ◌∷◌, ◌++◌, length, take, replicate, get_or, map, Some, append_assoc, length-append, sym, ap, ◌∙◌, arith}
+use Rattle.std.proofs.Common.{◌≡◌, ℕ, ◌+◌, ◌-◌, ◌^◌, ◌<◌, ◌≤◌, List, [], ◌∷◌, ◌++◌, length, take, replicate, get_or, map, Some, append_assoc, length-append, sym, ap, ◌∙◌, arith}
 use Rattle.std.specs.List.{slice_get}
 use Rattle.std.proofs.lemmas.List.{take_more, replicate_more, length-map, length-replicate}
 use Rattle.std.proofs.lemmas.Option.{get_or_from_slice_get, slice_get_within}
@@ -13,6 +13,13 @@ use Rattle.factor_table.specs.Rule.{first_words}
 -- one item more of a prefix
 pub take_next : {A : Type 0} (xs : List A) (i : ℕ) (x : A) → slice_get xs i ≡ Some x → take i xs ++ x ∷ [] ≡ take (i + 1) xs
 take_next xs i x e = ap (λ y. take i xs ++ y ∷ []) (sym (get_or_from_slice_get xs i x x e)) ∙ sym (take_more xs i x (slice_get_within xs i x e))
+
+-- a copied prefix, with one item more
+pub item_copied : (xs copies after : List ℕ) (i x y : ℕ) → slice_get xs i ≡ Some x → y ≡ x → copies ≡ take i xs → after ≡ copies ++ y ∷ [] → after ≡ take (i + 1) xs
+item_copied xs copies after i x y get same prefix e = e ∙ ap (λ l. l ++ y ∷ []) prefix ∙ ap (λ z. take i xs ++ z ∷ []) same ∙ take_next xs i x get
+
+pub item_limited : (xs : List ℕ) (i x y : ℕ) → slice_get xs i ≡ Some x → y ≡ x → y < 2 ^ 62 → get_or xs i 0 < 2 ^ 62
+item_limited xs i x y get same limited = let item = get_or_from_slice_get xs i x 0 get in omega arith
 
 -- one more zero
 pub zero_more : (base : List ℕ) (n k : ℕ) → n ≤ k → base ++ replicate (k - n) 0 ++ 0 ∷ [] ≡ base ++ replicate (k + 1 - n) 0

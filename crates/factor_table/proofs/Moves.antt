@@ -27,7 +27,7 @@ with_views p words views after h fit = record {
   known = (λ id v at. (fit id v at).known);
 }
 
-factor_found : (p : Parameters) (place word : ℕ) → (word ≡ 0) ⊎ IsFactorAt p place word → word ≢ 0 → IsFactorAt p place word
+pub factor_found : (p : Parameters) (place word : ℕ) → (word ≡ 0) ⊎ IsFactorAt p place word → word ≢ 0 → IsFactorAt p place word
 factor_found p place word (inl z) some_there = absurd (some_there z)
 factor_found p place word (inr f) some_there = f
 

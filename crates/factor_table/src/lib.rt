@@ -18,9 +18,11 @@ mod parameters;
 mod plain;
 mod seats;
 mod table;
+mod within;
 
 pub use key::Key;
 pub use layout::{Layout, Sizes};
 pub use parameters::{Classes, Parameters};
 pub use plain::tip;
 pub use table::{FactorSeat, FactorTable};
+pub use within::has_parts;

@@ -1,5 +1,5 @@
 use Rattle.std.proofs.Common.{◌≡◌, ℕ, ◌+◌, ◌<◌, ◌≤◌, [], ◌∷◌, ◌++◌, List, length, length-append, All, sym, ap, subst, ◌∙◌, arith}
-use Rattle.std.proofs.lemmas.List.Elements.{All-append, All-cons, All-nil}
+use Rattle.std.proofs.lemmas.List.Elements.{All-push}
 use Rattle.atomic_table.specs.Table.{Me}
 use Rattle.factor_table.specs.declared.parameters.Parameters.{Parameters}
 use Rattle.factor_table.specs.declared.table.FactorSeat.{FactorSeat}
@@ -31,8 +31,8 @@ loop-preserved c =
       dealer = (split.0 ∙ inv.dealer.0, split.2 ∙ is);
       count = ap length c.push_reserved.ensures.items ∙ length-append c.loop.dealt.items _ ∙ ap (λ n. n + 1) inv.count;
       room = omega (arith, c.push_reserved.ensures.capacity);
-      each = subst Q (sym c.push_reserved.ensures.items) (All-append P c.loop.dealt.items _ inv.each
-        (All-cons P _ [] (split.3 ∙ inv.dealer.0, ap (λ (m : Me (Unit {0}) View). m.0.parameters) split.4 ∙ ap (λ (m : Me (Unit {0}) View). m.0.parameters) is, ap (λ (m : Me (Unit {0}) View). m.0.known) split.4 ∙ ap (λ (m : Me (Unit {0}) View). m.0.known) is) (All-nil P)));
+      each = subst Q (sym c.push_reserved.ensures.items) (All-push P c.loop.dealt.items _ inv.each
+        (split.3 ∙ inv.dealer.0, ap (λ (m : Me (Unit {0}) View). m.0.parameters) split.4 ∙ ap (λ (m : Me (Unit {0}) View). m.0.parameters) is, ap (λ (m : Me (Unit {0}) View). m.0.known) split.4 ∙ ap (λ (m : Me (Unit {0}) View). m.0.known) is));
     }
 
 pub returns-clause-limited : goal.returns-clause-limited
