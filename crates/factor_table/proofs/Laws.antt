@@ -28,8 +28,8 @@ stays_zero p words views key m h within none =
     let place : ℕ = place_of (sizes_of p) key m in
     ⊎_elim (λ zero_there. zero_there)
     (λ (f : IsFactorAt p place (get_or words place 0)).
-        let same = one_to_one (sizes_of p) f.key key f.modulus m f.is_key.within within f.its_place in
-        absurd (none (subst (HasFraction p) same.0 f.is_key.has_fraction)))
+    let same = one_to_one (sizes_of p) f.key key f.modulus m f.is_key.within within f.its_place in
+    absurd (none (subst (HasFraction p) same.0 f.is_key.has_fraction)))
     (h.factors place (place_from (sizes_of p) key m))
 
 -- ---- what is known after a call: the place of its key, and all that was known before

@@ -42,13 +42,13 @@ pub looks : (S : Type 0) (p : Parameters) (slots id place : ℕ) (me : Me S View
 looks S p slots id place me told from s h homes at in_range =
     let n : ℕ = get_or s.words place 0 in let w : View = looked me.0 place n in
     let fit = all_fit p s.words s.views h in (
-  w,
-  keeps,
-  tt,
-  subst (λ ws. AreFactors p ws (set s.views id w)) (sym (set-get_or s.words place 0))
-    (with_views p s.words s.views (set s.views id w) h (after_set p s.words s.views id w fit (fits_looked p s.words me.0 place n (fit id me.0 at) (λ some_there. (from, some_there))))),
-  (refl, λ some_there. subst (λ q. IsFactorAt q place n) (sym told) (factor_found p place n (h.factors place from) some_there)),
-)
+      w,
+      keeps,
+      tt,
+      subst (λ ws. AreFactors p ws (set s.views id w)) (sym (set-get_or s.words place 0))
+          (with_views p s.words s.views (set s.views id w) h (after_set p s.words s.views id w fit (fits_looked p s.words me.0 place n (fit id me.0 at) (λ some_there. (from, some_there))))),
+      (refl, λ some_there. subst (λ q. IsFactorAt q place n) (sym told) (factor_found p place n (h.factors place from) some_there)),
+    )
 
 -- the word of its place is written where there was 0
 writes : (p : Parameters) (words : List ℕ) (views : List View) (id place word : ℕ) (v : View) → AreFactors p words views → get_elem? views id ≡ some v
@@ -59,7 +59,7 @@ writes p words views id place word v h at from below some_there is =
     let within : place < length words = subst (λ n. place < n) (sym h.count) below in
     let here : get_or ws place 0 ≡ word = get_or-set_same words place word 0 within in
     let stays : (x : ℕ) → get_or words x 0 ≢ 0 → get_or ws x 0 ≢ 0 = λ x filled.
-        dite (ℕ_discrete x place) (λ e. subst (λ y. get_or ws y 0 ≢ 0) (sym e) (λ z. some_there (sym here ∙ z))) (λ n z. filled (sym (get_or-set_other words place x word 0 n) ∙ z)) in
+    dite (ℕ_discrete x place) (λ e. subst (λ y. get_or ws y 0 ≢ 0) (sym e) (λ z. some_there (sym here ∙ z))) (λ n z. filled (sym (get_or-set_other words place x word 0 n) ∙ z)) in
     let fit : AllFit p ws views = λ j u e. fits_still p words ws u stays (all_fit p words views h j u e) in
     let after = after_set p ws views id w fit (fits_place p ws v place (fit id v at) (from, λ z. some_there (sym here ∙ z))) in
     let Is : ℕ → ℕ → Type 0 = λ x n. (n ≡ 0) ⊎ IsFactorAt p x n in record {
@@ -86,8 +86,8 @@ fills S p slots id place word me from below some_there is s h homes at in_range 
   keeps,
   tt,
   exchanged (get_or s.words place 0) 0 word (λ n. AreFactors p (set s.words place n) (set s.views id w))
-    (λ e. writes p s.words s.views id place word me.0 h at from below some_there is)
-    (λ ne. stays p s.words s.views id place me.0 h at from ne),
+      (λ e. writes p s.words s.views id place word me.0 h at from below some_there is)
+      (λ ne. stays p s.words s.views id place me.0 h at from ne),
   refl,
 )
 

@@ -26,3 +26,6 @@ pub use parameters::{Classes, Parameters};
 pub use plain::tip;
 pub use table::{FactorSeat, FactorTable};
 pub use within::has_parts;
+
+#[cfg(test)]
+mod tests;

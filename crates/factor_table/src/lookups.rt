@@ -39,7 +39,14 @@ impl FactorTable {
 
     /// The factor of `Key::Edge`.
     #[inline]
-    pub fn edge(&self, seat: &mut FactorSeat, i: u8, j: u8, a: u8, modulus: u8) -> Result<u64, NoUnit>
+    pub fn edge(
+        &self,
+        seat: &mut FactorSeat,
+        i: u8,
+        j: u8,
+        a: u8,
+        modulus: u8,
+    ) -> Result<u64, NoUnit>
         requires seat { IsSeatOf seat.old self.now }
         requires key { IsKeyOf (parameters_of self.now) (Key.Edge i j a) }
         requires modulus { modulus < length (parameters_of self.now).moduli }
@@ -53,7 +60,14 @@ impl FactorTable {
 
     /// The factor of `Key::Flag`.
     #[inline]
-    pub fn flag(&self, seat: &mut FactorSeat, c: u8, u: u8, a: u8, modulus: u8) -> Result<u64, NoUnit>
+    pub fn flag(
+        &self,
+        seat: &mut FactorSeat,
+        c: u8,
+        u: u8,
+        a: u8,
+        modulus: u8,
+    ) -> Result<u64, NoUnit>
         requires seat { IsSeatOf seat.old self.now }
         requires key { IsKeyOf (parameters_of self.now) (Key.Flag c u a) }
         requires modulus { modulus < length (parameters_of self.now).moduli }
@@ -67,7 +81,14 @@ impl FactorTable {
 
     /// The factor of `Key::Tip`.
     #[inline]
-    pub fn tip(&self, seat: &mut FactorSeat, c: u8, u: u8, a: u8, modulus: u8) -> Result<u64, NoUnit>
+    pub fn tip(
+        &self,
+        seat: &mut FactorSeat,
+        c: u8,
+        u: u8,
+        a: u8,
+        modulus: u8,
+    ) -> Result<u64, NoUnit>
         requires seat { IsSeatOf seat.old self.now }
         requires key { IsKeyOf (parameters_of self.now) (Key.Tip c u a) }
         requires modulus { modulus < length (parameters_of self.now).moduli }
@@ -81,7 +102,16 @@ impl FactorTable {
 
     /// The factor of `Key::Pair`.
     #[inline]
-    pub fn pair(&self, seat: &mut FactorSeat, c: u8, c1: u8, a1: u8, c2: u8, a2: u8, modulus: u8) -> Result<u64, NoUnit>
+    pub fn pair(
+        &self,
+        seat: &mut FactorSeat,
+        c: u8,
+        c1: u8,
+        a1: u8,
+        c2: u8,
+        a2: u8,
+        modulus: u8,
+    ) -> Result<u64, NoUnit>
         requires seat { IsSeatOf seat.old self.now }
         requires key { IsKeyOf (parameters_of self.now) (Key.Pair c c1 a1 c2 a2) }
         requires modulus { modulus < length (parameters_of self.now).moduli }
@@ -95,7 +125,15 @@ impl FactorTable {
 
     /// The factor of `Key::ClassEdge`.
     #[inline]
-    pub fn class_edge(&self, seat: &mut FactorSeat, class: u16, i: u8, j: u8, a: u8, modulus: u8) -> Result<u64, NoUnit>
+    pub fn class_edge(
+        &self,
+        seat: &mut FactorSeat,
+        class: u16,
+        i: u8,
+        j: u8,
+        a: u8,
+        modulus: u8,
+    ) -> Result<u64, NoUnit>
         requires seat { IsSeatOf seat.old self.now }
         requires key { IsKeyOf (parameters_of self.now) (Key.ClassEdge class i j a) }
         requires modulus { modulus < length (parameters_of self.now).moduli }
@@ -109,7 +147,14 @@ impl FactorTable {
 
     /// The factor of `Key::ClassVertex`.
     #[inline]
-    pub fn class_vertex(&self, seat: &mut FactorSeat, class: u16, c: u8, s: u8, modulus: u8) -> Result<u64, NoUnit>
+    pub fn class_vertex(
+        &self,
+        seat: &mut FactorSeat,
+        class: u16,
+        c: u8,
+        s: u8,
+        modulus: u8,
+    ) -> Result<u64, NoUnit>
         requires seat { IsSeatOf seat.old self.now }
         requires key { IsKeyOf (parameters_of self.now) (Key.ClassVertex class c s) }
         requires modulus { modulus < length (parameters_of self.now).moduli }

@@ -73,7 +73,11 @@ fn open(
 }
 
 // The weights, the moduli and as many zeros as there are words for factors.
-fn blank_words(alloc: Global, parameters: &Parameters, layout: &Layout) -> Result<Vec<u64>, NoMemory>
+fn blank_words(
+    alloc: Global,
+    parameters: &Parameters,
+    layout: &Layout,
+) -> Result<Vec<u64>, NoMemory>
     requires { layout.now.sizes ≡ sizes_of parameters.now }
     ensures { IfOk result (λ words. words.items ≡ first_words parameters.now ++ replicate (words_of (sizes_of parameters.now) - first_factor (sizes_of parameters.now)) 0) }
 {

@@ -12,6 +12,6 @@ compare_exchange-requires c =
       c.requires.seat.0,
       omega arith,
       fills_told (Unit {0}) t.table.shared.key p _ _ c.args.place c.word_for-word.result _ t.told (from_first p key m c.args.place c.requires.place) below
-        (subst (λ n. n ≢ 0) (sym c.word_for-word.ensures) (word_not_zero c.factor-answer.result))
-        (written p key m c.args.place c.word_for-word.result c.get-modulo.result.now c.factor-answer.result c.requires.key c.requires.modulus c.requires.place c.get-modulo.ensures c.factor-answer.ensures c.word_for-word.ensures),
+          (subst (λ n. n ≢ 0) (sym c.word_for-word.ensures) (word_not_zero c.factor-answer.result))
+          (written p key m c.args.place c.word_for-word.result c.get-modulo.result.now c.factor-answer.result c.requires.key c.requires.modulus c.requires.place c.get-modulo.ensures c.factor-answer.ensures c.word_for-word.ensures),
     )

@@ -32,7 +32,7 @@ loop-preserved c =
       count = ap length c.push_reserved.ensures.items ∙ length-append c.loop.dealt.items _ ∙ ap (λ n. n + 1) inv.count;
       room = omega (arith, c.push_reserved.ensures.capacity);
       each = subst Q (sym c.push_reserved.ensures.items) (All-push P c.loop.dealt.items _ inv.each
-        (split.3 ∙ inv.dealer.0, ap (λ (m : Me (Unit {0}) View). m.0.parameters) split.4 ∙ ap (λ (m : Me (Unit {0}) View). m.0.parameters) is, ap (λ (m : Me (Unit {0}) View). m.0.known) split.4 ∙ ap (λ (m : Me (Unit {0}) View). m.0.known) is));
+          (split.3 ∙ inv.dealer.0, ap (λ (m : Me (Unit {0}) View). m.0.parameters) split.4 ∙ ap (λ (m : Me (Unit {0}) View). m.0.parameters) is, ap (λ (m : Me (Unit {0}) View). m.0.known) split.4 ∙ ap (λ (m : Me (Unit {0}) View). m.0.known) is));
     }
 
 pub returns-clause-limited : goal.returns-clause-limited
