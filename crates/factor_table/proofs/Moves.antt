@@ -50,7 +50,7 @@ looks S p slots id place me told from s h homes at in_range =
       (refl, λ some_there. subst (λ q. IsFactorAt q place n) (sym told) (factor_found p place n (h.factors place from) some_there)),
     )
 
--- the word of its place is written where there was 0
+-- the word of its place is written in place of 0
 writes : (p : Parameters) (words : List ℕ) (views : List View) (id place word : ℕ) (v : View) → AreFactors p words views → get_elem? views id ≡ some v
     → first_factor (sizes_of p) ≤ place → place < words_of (sizes_of p) → word ≢ 0 → IsFactorAt p place word
     → AreFactors p (set words place word) (set views id (with_place v place))

@@ -53,6 +53,6 @@ fits_spent p words = record { told = λ h. cc; known = nothing_known p words }
 pub fits_opening : (p : Parameters) (words : List ℕ) → Fits p words (opening_view p)
 fits_opening p words = record { told = λ h. refl; known = nothing_known p words }
 
--- what is filled stays filled where no word becomes 0
+-- what is filled stays filled if no word becomes 0
 pub fits_still : (p : Parameters) (words after : List ℕ) (v : View) → ((place : ℕ) → get_or words place 0 ≢ 0 → get_or after place 0 ≢ 0) → Fits p words v → Fits p after v
 fits_still p words after v stays f = record { told = f.told; known = λ x there. let filled = f.known x there in (filled.0, stays x filled.1) }

@@ -69,7 +69,7 @@ fraction_of p (ClassEdge class i j a) = class_edge p.setup (class_at p class) i 
 fraction_of p (ClassVertex class c n) = class_vertex p.setup (class_at p class) c n
 fraction_of p (Tip c u a) = tip_fraction p.setup c u a
 
--- The word of a fraction modulo m: its residue plus 1, or 2^64 - 1 where its bottom is no unit.
+-- The word of a fraction modulo m: its residue plus 1, or 2^64 - 1 if its bottom is no unit.
 abbrev pub IsWordOf : ℕ → Fraction → ℕ → Type 0
 IsWordOf m f word =
     ((x : ℕ) × IsResidue m f x × (word ≡ x + 1))

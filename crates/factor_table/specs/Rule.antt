@@ -64,7 +64,7 @@ Looks s me found after =
     (after ≡ (looked me.0 s.word found, me.1))
     × (found ≢ 0 → IsFactorAt me.0.parameters s.word found)
 
--- A fill, which exchanges 0 for a word, makes its place known, also where it found that another had filled it.
+-- A fill, which exchanges 0 for a word, makes its place known, also if another had filled it.
 abbrev pub Fills : {S : Type 0} → Step S → Me S View → ℕ → Me S View → Type 0
 Fills s me found after = after ≡ (with_place me.0 s.word, me.1)
 

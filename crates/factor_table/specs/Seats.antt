@@ -1,11 +1,13 @@
 -- What a table and a seat mean to a caller.
-use Rattle.std.specs.Prelude.{◌≡◌, ℕ, List, Contains}
+use Rattle.std.specs.Prelude.{◌≡◌, ℕ, List, Contains, Result}
+use Rattle.residue.specs.declared.errors.NoUnit.{NoUnit}
+use Rattle.residue.specs.Answers.{GivesResidue}
 use Rattle.factor_table.specs.declared.key.Key.{Key}
 use Rattle.factor_table.specs.declared.parameters.Parameters.{Parameters}
 use Rattle.factor_table.specs.declared.table.FactorTable.{FactorTable}
 use Rattle.factor_table.specs.declared.table.FactorSeat.{FactorSeat}
 use Rattle.factor_table.specs.Places.{place_of}
-use Rattle.factor_table.specs.Factors.{sizes_of}
+use Rattle.factor_table.specs.Factors.{sizes_of, modulus_at, fraction_of}
 
 -- what the factors of the table are of, which no call changes
 abbrev pub parameters_of : FactorTable → Parameters
@@ -30,3 +32,8 @@ known_of s = s.seat.me.0.known
 -- the seat knows the word of a key for the modulus at an index
 abbrev pub Knows : FactorSeat → FactorTable → Key → ℕ → Type 0
 Knows s t key modulus = Contains (known_of s) (place_in t key modulus)
+
+-- the answer gives the residue of the factor of a key for the modulus at an index
+abbrev pub IsFactorIn : FactorTable → Key → ℕ → Result ℕ NoUnit → Type 0
+IsFactorIn t key modulus answer =
+    GivesResidue (modulus_at (parameters_of t) modulus) (fraction_of (parameters_of t) key) answer

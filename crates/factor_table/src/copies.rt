@@ -12,7 +12,7 @@ impl Parameters {
     /// Parameters of their own, equal to these.
     ///
     /// # Errors
-    /// `NoMemory` where there is no memory for them.
+    /// `NoMemory` if there is no memory for them.
     pub fn copied(
         alloc: Global,
         setup: &Setup,
@@ -21,7 +21,8 @@ impl Parameters {
         classes: &[Class],
     ) -> Result<Self, NoMemory>
         ensures copied { IfOk result (λ p. p ≡ parameters setup.now degree moduli.now classes.now) }
-        ensures limited { IfOk result (λ p. (index : ℕ) → index < length moduli.now → slice_index moduli.now index < 2 ^ 62) }
+        ensures limited { IfOk result (λ p. (index : ℕ) → index < length moduli.now
+            → slice_index moduli.now index < 2 ^ 62) }
     {
         let setup = setup_like(alloc, setup)?;
         let moduli = moduli_like(alloc, moduli)?;
@@ -64,7 +65,8 @@ fn setup_like(alloc: Global, setup: &Setup) -> Result<Setup, NoMemory>
 // The same moduli, which are below 2^62.
 fn moduli_like(alloc: Global, moduli: &Moduli) -> Result<Moduli, NoMemory>
     ensures copied { IfOk result (λ copy. copy ≡ moduli.now) }
-    ensures limited { IfOk result (λ _. (index : ℕ) → index < length moduli.now → slice_index moduli.now index < 2 ^ 62) }
+    ensures limited { IfOk result (λ _. (index : ℕ) → index < length moduli.now
+        → slice_index moduli.now index < 2 ^ 62) }
 {
     let mut copies = Vec::new(alloc);
     for index in 0..moduli.len() {

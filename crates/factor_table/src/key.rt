@@ -21,8 +21,8 @@ pub enum Key {
     Tangent {
         c: u8,
     },
-    /// The vertex of colour `c` without marks and with two edges, of the degrees `a1` and `a2` to vertices of the colours
-    /// `c1` and `c2`.
+    /// The vertex of colour `c` without marks and with two edges, of the degrees `a1` and `a2` to vertices of the
+    /// colours `c1` and `c2`.
     Pair {
         c: u8,
         c1: u8,
@@ -43,8 +43,8 @@ pub enum Key {
         c: u8,
         s: u8,
     },
-    /// The vertex of colour `c` with one mark and one edge, of degree `a` to a vertex of colour `u`, under a psi class of
-    /// the power 1: the difference of the weights of `u` and `c` over the degree.
+    /// The vertex of colour `c` with one mark and one edge, of degree `a` to a vertex of colour `u`, under a psi class
+    /// to the power 1: the difference of the weights of `u` and `c` over the degree.
     Tip {
         c: u8,
         u: u8,

@@ -95,7 +95,8 @@ impl Layout {
         requires modulus { modulus < self.now.sizes.moduli }
         ensures value { result ≡ place_of self.now.sizes key modulus }
         ensures within { (first_factor self.now.sizes ≤ result) × (result < words_of self.now.sizes) }
-        ensures one_to_one { (other : Key) (n : ℕ) → IsWithin self.now.sizes other → n < self.now.sizes.moduli → place_of self.now.sizes other n ≡ result → (other ≡ key) × (n ≡ modulus) }
+        ensures one_to_one { (other : Key) (n : ℕ) → IsWithin self.now.sizes other → n < self.now.sizes.moduli
+            → place_of self.now.sizes other n ≡ result → (other ≡ key) × (n ≡ modulus) }
     {
         self.place_by_kind(key, modulus)
     }

@@ -2,7 +2,7 @@
 //!
 //! The factors of a sum over trees come from few keys: an edge has two colours and a degree, a flag the same. A
 //! [`FactorTable`] has one word for each [`Key`] and modulus. A word is 0 at first, and whoever needs its factor first
-//! computes it and writes it, as the factor plus 1, or as 2^64 - 1 where the factor has no residue. From then on the
+//! computes it and writes it, as the factor plus 1, or as 2^64 - 1 if the factor has no residue. From then on the
 //! word stays, and every thread reads it by one load.
 //!
 //! Each worker has a [`FactorSeat`] of the table. The seat takes no bytes: it is what proofs know of the worker, the

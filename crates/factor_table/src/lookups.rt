@@ -1,7 +1,7 @@
 //! How a worker asks the table for a factor.
 //!
-//! Each call loads one word. Where it finds 0, the factor is computed and the word is filled by one `compare_exchange`,
-//! which another worker may have done meanwhile: then the word is the same.
+//! Each call loads one word. If it finds 0, the factor is computed and the word is filled by one `compare_exchange`. If
+//! another worker has filled it meanwhile, the word is the same. No call takes memory.
 
 ghost use Rattle.std.specs.Prelude.{◌≡◌, ℕ, ◌+◌, ◌<◌, ◌^◌, [], ◌∷◌, ◌++◌, length, pos, IfOk};
 ghost use Rattle.arithmetic.specs.Fractions.{Fraction, fraction, IsResidue};
@@ -12,9 +12,8 @@ ghost use Rattle.localisation.specs.VertexFraction.{plain_vertex};
 ghost use Rattle.localisation.specs.ClassValue.{class_edge, class_vertex};
 ghost use Rattle.vertex_factor.specs.Ends.{end, flag_fraction};
 ghost use Rattle.factor_table.specs.declared.key.Key.{Key};
-ghost use Rattle.factor_table.specs.Places.{place_of};
-ghost use Rattle.factor_table.specs.Factors.{sizes_of, modulus_at, class_at, IsKeyOf, fraction_of, tip_fraction, IsWordOf, word_of};
-ghost use Rattle.factor_table.specs.Seats.{parameters_of, IsSeatOf, known_of, place_in};
+ghost use Rattle.factor_table.specs.Factors.{modulus_at, class_at, IsKeyOf, tip_fraction, IsWordOf, word_of};
+ghost use Rattle.factor_table.specs.Seats.{parameters_of, IsSeatOf, IsFactorIn, known_of, place_in};
 
 use crate::key::Key;
 use crate::table::{FactorSeat, FactorTable, Fill, Look};
@@ -24,12 +23,12 @@ impl FactorTable {
     /// The residue of the factor of a key for the modulus at an index. Afterwards the seat knows its word.
     ///
     /// # Errors
-    /// `NoUnit` exactly where the bottom of the factor's fraction and the modulus have a common divisor above 1.
+    /// `NoUnit` exactly if the bottom of the factor's fraction and the modulus have a common divisor above 1.
     pub fn factor(&self, seat: &mut FactorSeat, key: &Key, modulus: u8) -> Result<u64, NoUnit>
         requires seat { IsSeatOf seat.old self.now }
         requires key { IsKeyOf (parameters_of self.now) key.now }
         requires modulus { modulus < length (parameters_of self.now).moduli }
-        ensures value { GivesResidue (modulus_at (parameters_of self.now) modulus) (fraction_of (parameters_of self.now) key.now) result }
+        ensures value { IsFactorIn self.now key.now modulus result }
         ensures seat { IsSeatOf seat.new self.now }
         ensures known { known_of seat.new ≡ known_of seat.old ++ place_in self.now key.now modulus ∷ [] }
     {
@@ -37,7 +36,10 @@ impl FactorTable {
         self.at_place(seat, place, *key, modulus)
     }
 
-    /// The factor of `Key::Edge`.
+    /// The factor of the edge of degree `a` between vertices of the colours `i` and `j`, as `factor` gives it.
+    ///
+    /// # Errors
+    /// `NoUnit` exactly if the bottom of the factor's fraction and the modulus have a common divisor above 1.
     #[inline]
     pub fn edge(
         &self,
@@ -50,15 +52,21 @@ impl FactorTable {
         requires seat { IsSeatOf seat.old self.now }
         requires key { IsKeyOf (parameters_of self.now) (Key.Edge i j a) }
         requires modulus { modulus < length (parameters_of self.now).moduli }
-        ensures value { GivesResidue (modulus_at (parameters_of self.now) modulus) (edge_fraction (parameters_of self.now).setup i j a) result }
+        ensures value { GivesResidue (modulus_at (parameters_of self.now) modulus)
+            (edge_fraction (parameters_of self.now).setup i j a) result }
         ensures seat { IsSeatOf seat.new self.now }
-        ensures known { known_of seat.new ≡ known_of seat.old ++ place_in self.now (Key.Edge i j a) modulus ∷ [] }
+        ensures known { known_of seat.new
+            ≡ known_of seat.old ++ place_in self.now (Key.Edge i j a) modulus ∷ [] }
     {
         let place = self.layout.edge(i, j, a, modulus);
         self.at_place(seat, place, Key::Edge { i, j, a }, modulus)
     }
 
-    /// The factor of `Key::Flag`.
+    /// The factor of the flag of an edge of degree `a` at a vertex of colour `c`, whose other end has the colour `u`, as
+    /// `factor` gives it.
+    ///
+    /// # Errors
+    /// `NoUnit` exactly if the bottom of the factor's fraction and the modulus have a common divisor above 1.
     #[inline]
     pub fn flag(
         &self,
@@ -71,15 +79,21 @@ impl FactorTable {
         requires seat { IsSeatOf seat.old self.now }
         requires key { IsKeyOf (parameters_of self.now) (Key.Flag c u a) }
         requires modulus { modulus < length (parameters_of self.now).moduli }
-        ensures value { GivesResidue (modulus_at (parameters_of self.now) modulus) (flag_fraction (parameters_of self.now).setup c u a) result }
+        ensures value { GivesResidue (modulus_at (parameters_of self.now) modulus)
+            (flag_fraction (parameters_of self.now).setup c u a) result }
         ensures seat { IsSeatOf seat.new self.now }
-        ensures known { known_of seat.new ≡ known_of seat.old ++ place_in self.now (Key.Flag c u a) modulus ∷ [] }
+        ensures known { known_of seat.new
+            ≡ known_of seat.old ++ place_in self.now (Key.Flag c u a) modulus ∷ [] }
     {
         let place = self.layout.flag(c, u, a, modulus);
         self.at_place(seat, place, Key::Flag { c, u, a }, modulus)
     }
 
-    /// The factor of `Key::Tip`.
+    /// The factor of the vertex of colour `c` with one mark, under a psi class to the power 1, and one edge of degree `a`
+    /// to a vertex of colour `u`, as `factor` gives it.
+    ///
+    /// # Errors
+    /// `NoUnit` exactly if the degree and the modulus have a common divisor above 1.
     #[inline]
     pub fn tip(
         &self,
@@ -92,15 +106,21 @@ impl FactorTable {
         requires seat { IsSeatOf seat.old self.now }
         requires key { IsKeyOf (parameters_of self.now) (Key.Tip c u a) }
         requires modulus { modulus < length (parameters_of self.now).moduli }
-        ensures value { GivesResidue (modulus_at (parameters_of self.now) modulus) (tip_fraction (parameters_of self.now).setup c u a) result }
+        ensures value { GivesResidue (modulus_at (parameters_of self.now) modulus)
+            (tip_fraction (parameters_of self.now).setup c u a) result }
         ensures seat { IsSeatOf seat.new self.now }
-        ensures known { known_of seat.new ≡ known_of seat.old ++ place_in self.now (Key.Tip c u a) modulus ∷ [] }
+        ensures known { known_of seat.new
+            ≡ known_of seat.old ++ place_in self.now (Key.Tip c u a) modulus ∷ [] }
     {
         let place = self.layout.tip(c, u, a, modulus);
         self.at_place(seat, place, Key::Tip { c, u, a }, modulus)
     }
 
-    /// The factor of `Key::Pair`.
+    /// The factor of the vertex of colour `c` without marks and with two edges, of the degrees `a1` and `a2` to vertices
+    /// of the colours `c1` and `c2`, as `factor` gives it.
+    ///
+    /// # Errors
+    /// `NoUnit` exactly if the bottom of the factor's fraction and the modulus have a common divisor above 1.
     #[inline]
     pub fn pair(
         &self,
@@ -115,15 +135,21 @@ impl FactorTable {
         requires seat { IsSeatOf seat.old self.now }
         requires key { IsKeyOf (parameters_of self.now) (Key.Pair c c1 a1 c2 a2) }
         requires modulus { modulus < length (parameters_of self.now).moduli }
-        ensures value { GivesResidue (modulus_at (parameters_of self.now) modulus) (plain_vertex (parameters_of self.now).setup c (end c1 a1 ∷ end c2 a2 ∷ []) 0) result }
+        ensures value { GivesResidue (modulus_at (parameters_of self.now) modulus)
+            (plain_vertex (parameters_of self.now).setup c (end c1 a1 ∷ end c2 a2 ∷ []) 0) result }
         ensures seat { IsSeatOf seat.new self.now }
-        ensures known { known_of seat.new ≡ known_of seat.old ++ place_in self.now (Key.Pair c c1 a1 c2 a2) modulus ∷ [] }
+        ensures known { known_of seat.new
+            ≡ known_of seat.old ++ place_in self.now (Key.Pair c c1 a1 c2 a2) modulus ∷ [] }
     {
         let place = self.layout.pair(c, c1, a1, c2, a2, modulus);
         self.at_place(seat, place, Key::Pair { c, c1, a1, c2, a2 }, modulus)
     }
 
-    /// The factor of `Key::ClassEdge`.
+    /// The part of the class at an index at the edge of degree `a` between vertices of the colours `i` and `j`, as
+    /// `factor` gives it.
+    ///
+    /// # Errors
+    /// `NoUnit` exactly if the bottom of the factor's fraction and the modulus have a common divisor above 1.
     #[inline]
     pub fn class_edge(
         &self,
@@ -137,15 +163,20 @@ impl FactorTable {
         requires seat { IsSeatOf seat.old self.now }
         requires key { IsKeyOf (parameters_of self.now) (Key.ClassEdge class i j a) }
         requires modulus { modulus < length (parameters_of self.now).moduli }
-        ensures value { GivesResidue (modulus_at (parameters_of self.now) modulus) (class_edge (parameters_of self.now).setup (class_at (parameters_of self.now) class) i j a) result }
+        ensures value { GivesResidue (modulus_at (parameters_of self.now) modulus)
+            (class_edge (parameters_of self.now).setup (class_at (parameters_of self.now) class) i j a) result }
         ensures seat { IsSeatOf seat.new self.now }
-        ensures known { known_of seat.new ≡ known_of seat.old ++ place_in self.now (Key.ClassEdge class i j a) modulus ∷ [] }
+        ensures known { known_of seat.new
+            ≡ known_of seat.old ++ place_in self.now (Key.ClassEdge class i j a) modulus ∷ [] }
     {
         let place = self.layout.class_edge(class, i, j, a, modulus);
         self.at_place(seat, place, Key::ClassEdge { class, i, j, a }, modulus)
     }
 
-    /// The factor of `Key::ClassVertex`.
+    /// The part of the class at an index at a vertex of colour `c` with `s` edges, as `factor` gives it.
+    ///
+    /// # Errors
+    /// `NoUnit` exactly if the bottom of the factor's fraction and the modulus have a common divisor above 1.
     #[inline]
     pub fn class_vertex(
         &self,
@@ -158,23 +189,28 @@ impl FactorTable {
         requires seat { IsSeatOf seat.old self.now }
         requires key { IsKeyOf (parameters_of self.now) (Key.ClassVertex class c s) }
         requires modulus { modulus < length (parameters_of self.now).moduli }
-        ensures value { GivesResidue (modulus_at (parameters_of self.now) modulus) (class_vertex (parameters_of self.now).setup (class_at (parameters_of self.now) class) c s) result }
+        ensures value { GivesResidue (modulus_at (parameters_of self.now) modulus)
+            (class_vertex (parameters_of self.now).setup (class_at (parameters_of self.now) class) c s) result }
         ensures seat { IsSeatOf seat.new self.now }
-        ensures known { known_of seat.new ≡ known_of seat.old ++ place_in self.now (Key.ClassVertex class c s) modulus ∷ [] }
+        ensures known { known_of seat.new
+            ≡ known_of seat.old ++ place_in self.now (Key.ClassVertex class c s) modulus ∷ [] }
     {
         let place = self.layout.class_vertex(class, c, s, modulus);
         self.at_place(seat, place, Key::ClassVertex { class, c, s }, modulus)
     }
 
-    /// The factor of `Key::Tangent`, which always has a residue.
+    /// The residue of the product of the differences of the weight of `c` to those of the other colours, which it always
+    /// has.
     #[inline]
     pub fn tangent(&self, seat: &mut FactorSeat, c: u8, modulus: u8) -> u64
         requires seat { IsSeatOf seat.old self.now }
         requires key { IsKeyOf (parameters_of self.now) (Key.Tangent c) }
         requires modulus { modulus < length (parameters_of self.now).moduli }
-        ensures value { IsResidue (modulus_at (parameters_of self.now) modulus) (fraction (tangent_product (parameters_of self.now).setup c) (pos 1)) result }
+        ensures value { IsResidue (modulus_at (parameters_of self.now) modulus)
+            (fraction (tangent_product (parameters_of self.now).setup c) (pos 1)) result }
         ensures seat { IsSeatOf seat.new self.now }
-        ensures known { known_of seat.new ≡ known_of seat.old ++ place_in self.now (Key.Tangent c) modulus ∷ [] }
+        ensures known { known_of seat.new
+            ≡ known_of seat.old ++ place_in self.now (Key.Tangent c) modulus ∷ [] }
     {
         let place = self.layout.tangent(c, modulus);
         match self.at_place(seat, place, Key::Tangent { c }, modulus) {
@@ -196,7 +232,7 @@ impl FactorTable {
         requires key { IsKeyOf (parameters_of self.now) key }
         requires modulus { modulus < length (parameters_of self.now).moduli }
         requires place { place ≡ place_in self.now key modulus }
-        ensures value { GivesResidue (modulus_at (parameters_of self.now) modulus) (fraction_of (parameters_of self.now) key) result }
+        ensures value { IsFactorIn self.now key modulus result }
         ensures seat { IsSeatOf seat.new self.now }
         ensures known { known_of seat.new ≡ known_of seat.old ++ place_in self.now key modulus ∷ [] }
     {
@@ -222,7 +258,7 @@ impl FactorTable {
         requires key { IsKeyOf (parameters_of self.now) key }
         requires modulus { modulus < length (parameters_of self.now).moduli }
         requires place { place ≡ place_in self.now key modulus }
-        ensures value { GivesResidue (modulus_at (parameters_of self.now) modulus) (fraction_of (parameters_of self.now) key) result }
+        ensures value { IsFactorIn self.now key modulus result }
         ensures seat { IsSeatOf seat.new self.now }
         ensures known { known_of seat.new ≡ known_of seat.old ++ place_in self.now key modulus ∷ [] }
     {

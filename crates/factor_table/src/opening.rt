@@ -18,10 +18,11 @@ impl FactorTable {
     /// A table in which no word is filled, and so many seats of it. All of its memory is taken here.
     ///
     /// The degree is from 1 to 10, there are 1 to 8 moduli and at most 512 classes, and 1 to 64 seats. The table has
-    /// fewer than 9,300,000 words of 8 bytes, and as many as these sizes ask for.
+    /// fewer than 9,300,000 words of 8 bytes, and as many as these sizes ask for. It keeps copies of what it is given. While
+    /// it is made, its words are in memory twice.
     ///
     /// # Errors
-    /// `NoMemory` where there is no memory for the table or the seats.
+    /// `NoMemory` if there is no memory for the table or the seats.
     pub fn new(
         alloc: Global,
         setup: &Setup,
@@ -34,8 +35,10 @@ impl FactorTable {
         requires moduli { (1 ≤ length moduli.now) × (length moduli.now ≤ 8) }
         requires classes { length classes.now ≤ 512 }
         requires seats { (1 ≤ seats) × (seats ≤ 64) }
-        ensures parameters { IfOk result (λ r. parameters_of r.0 ≡ parameters setup.now degree moduli.now classes.now) }
-        ensures words { IfOk result (λ r. word_count r.0 ≡ words_of (sizes_of (parameters setup.now degree moduli.now classes.now))) }
+        ensures parameters { IfOk result (λ r.
+            parameters_of r.0 ≡ parameters setup.now degree moduli.now classes.now) }
+        ensures words { IfOk result (λ r.
+            word_count r.0 ≡ words_of (sizes_of (parameters setup.now degree moduli.now classes.now))) }
         ensures limited { IfOk result (λ r. word_count r.0 < 9300000) }
         ensures seats { IfOk result (λ r. length r.1.items ≡ seats) }
         ensures seated { IfOk result (λ r. All (λ s. IsSeatOf s r.0 × (known_of s ≡ [])) r.1.items) }
@@ -64,8 +67,10 @@ fn open(
     layout: &Layout,
 ) -> Result<(Words, Seat<(), View>), NoMemory>
     requires { layout.now.sizes ≡ sizes_of parameters.now }
-    ensures table { IfOk result (λ r. (r.0.shared.key ≡ parameters.now) × (r.0.shared.table_id.words ≡ words_of (sizes_of parameters.now)) × (r.0.shared.table_id.slots ≡ 0)) }
-    ensures seat { IfOk result (λ r. (r.1.table_id ≡ r.0.shared.table_id) × (r.1.me ≡ (opening_view parameters.now, []))) }
+    ensures table { IfOk result (λ r. (r.0.shared.key ≡ parameters.now)
+        × (r.0.shared.table_id.words ≡ words_of (sizes_of parameters.now)) × (r.0.shared.table_id.slots ≡ 0)) }
+    ensures seat { IfOk result (λ r. (r.1.table_id ≡ r.0.shared.table_id)
+        × (r.1.me ≡ (opening_view parameters.now, []))) }
 {
     let words = blank_words(alloc, parameters, layout)?;
     let opened = Table::of_words(alloc, words.as_slice(), parameters)?;
@@ -79,7 +84,8 @@ fn blank_words(
     layout: &Layout,
 ) -> Result<Vec<u64>, NoMemory>
     requires { layout.now.sizes ≡ sizes_of parameters.now }
-    ensures { IfOk result (λ words. words.items ≡ first_words parameters.now ++ replicate (words_of (sizes_of parameters.now) - first_factor (sizes_of parameters.now)) 0) }
+    ensures { IfOk result (λ words. words.items ≡ first_words parameters.now
+        ++ replicate (words_of (sizes_of parameters.now) - first_factor (sizes_of parameters.now)) 0) }
 {
     let count = layout.words();
     let mut words = Vec::with_capacity(alloc, count)?;

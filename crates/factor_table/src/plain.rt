@@ -15,7 +15,7 @@ impl Parameters {
     /// The residue of the factor of a key, which is one of a table of these parameters.
     ///
     /// # Errors
-    /// `NoUnit` exactly where the bottom of the factor's fraction and the modulus have a common divisor above 1.
+    /// `NoUnit` exactly if the bottom of the factor's fraction and the modulus have a common divisor above 1.
     pub fn factor(&self, key: Key, modulus: &Modulus) -> Result<u64, NoUnit>
         requires key { IsKeyOf self.now key }
         requires degree { self.now.degree ≤ 10 }
@@ -40,11 +40,11 @@ impl Parameters {
     }
 }
 
-/// The residue of the difference of the weights of `u` and `c`, each at most the rank, over the degree `a`: the factor of
-/// a vertex of colour `c` with one mark, under a psi class of the power 1, and one edge to a vertex of colour `u`.
+/// The residue of the difference of the weights of `u` and `c`, each at most the rank, over the degree `a`: the factor
+/// of a vertex of colour `c` with one mark, under a psi class to the power 1, and one edge to a vertex of colour `u`.
 ///
 /// # Errors
-/// `NoUnit` exactly where the degree and the modulus have a common divisor above 1.
+/// `NoUnit` exactly if the degree and the modulus have a common divisor above 1.
 pub fn tip(setup: &Setup, c: u8, u: u8, a: u8, modulus: &Modulus) -> Result<u64, NoUnit>
     requires c_within { c < length setup.now }
     requires u_within { u < length setup.now }

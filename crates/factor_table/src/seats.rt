@@ -32,7 +32,8 @@ impl FactorTable {
         requires modulus { modulus < length (parameters_of self.now).moduli }
         ensures value { result ≡ place_in self.now key modulus }
         ensures within { (first_factor (sizes_of (parameters_of self.now)) ≤ result) × (result < word_count self.now) }
-        ensures one_to_one { (other : Key) (index : ℕ) → IsWithin (sizes_of (parameters_of self.now)) other → index < length (parameters_of self.now).moduli
+        ensures one_to_one { (other : Key) (index : ℕ) → IsWithin (sizes_of (parameters_of self.now)) other
+            → index < length (parameters_of self.now).moduli
             → place_in self.now other index ≡ result → (other ≡ key) × (index ≡ modulus) }
     {
         self.layout.place(key, modulus)

@@ -77,7 +77,8 @@ pub struct FactorTable {
     ghost no_slots: { table.shared.table_id.slots ≡ 0 },
     ghost laid_out: { layout.sizes ≡ sizes_of parameters },
     ghost counted: { table.shared.table_id.words ≡ words_of (sizes_of parameters) },
-    ghost moduli_limited: { (index : ℕ) → index < length parameters.moduli → slice_index parameters.moduli index < 2 ^ 62 },
+    ghost moduli_limited: { (index : ℕ) → index < length parameters.moduli
+        → slice_index parameters.moduli index < 2 ^ 62 },
 }
 
 /// The seat of one worker at a [`FactorTable`].

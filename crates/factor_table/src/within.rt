@@ -55,7 +55,7 @@ impl Parameters {
     }
 }
 
-/// Whether a class has a part at each edge and each vertex, and its parameter, where it has one, is from 1 to 64.
+/// Whether a class has a part at each edge and each vertex, and its parameter, if it has one, is from 1 to 64.
 pub fn has_parts(class: &Class) -> bool
     ensures { IsTrue result ↔ HasParts class.now }
 {
