@@ -1,8 +1,7 @@
 -- The word at the place of a key.
-use Rattle.std.proofs.Common.{◌≡◌, ◌≢◌, ℕ, ◌<◌, ◌≤◌, List, length, get_or, Result, Ok, Err, Some, sym, ap, ◌∙◌, subst, arith}
+use Rattle.std.proofs.Common.{◌≡◌, ℕ, ◌<◌, ◌≤◌, length, Result, Some, sym, ap, ◌∙◌, subst, arith}
 use Rattle.std.specs.List.{slice_get}
 use Rattle.std.proofs.lemmas.Option.{get_or_from_slice_get}
-use Rattle.arithmetic.specs.Fractions.{Fraction}
 use Rattle.residue.specs.declared.errors.NoUnit.{NoUnit}
 use Rattle.residue.specs.declared.class.Class.{Class}
 use Rattle.residue.specs.declared.class.Class.TheVariants.{Contact}

@@ -1,12 +1,12 @@
 -- What the rule says of a key's word, and what is known after a call.
-use Rattle.std.proofs.Common.{◌≡◌, ℕ, ◌<◌, ◌≤◌, ◌⊎◌, inl, inr, ⊎_elim, List, [], ◌∷◌, ◌++◌, length, get_or, Contains, sym, subst}
-use Rattle.std.proofs.lemmas.List.Elements.{Contains-push, Contains-append_left, Contains-append_right}
+use Rattle.std.proofs.Common.{◌≡◌, ℕ, ◌<◌, ⊎_elim, List, [], ◌∷◌, ◌++◌, length, get_or, Contains, sym, subst}
+use Rattle.std.proofs.lemmas.List.Elements.{Contains-push, Contains-append_left}
 use mathlib.Core.Option.{some}
 use lib.ListN.{get_elem?}
 use Rattle.factor_table.specs.declared.key.Key.{Key}
 use Rattle.factor_table.specs.declared.parameters.Parameters.{Parameters}
 use Rattle.factor_table.specs.declared.table.View.{View}
-use Rattle.factor_table.specs.Places.{IsWithin, first_factor, place_of}
+use Rattle.factor_table.specs.Places.{IsWithin, place_of}
 use Rattle.factor_table.specs.Factors.{sizes_of, modulus_at, fraction_of, HasFraction, IsKeyOf, IsWordOf}
 use Rattle.factor_table.specs.Rule.{AreFactors, IsFactorAt}
 use Rattle.factor_table.proofs.OneToOne.{place_from, one_to_one}

@@ -7,15 +7,15 @@ use mathlib.Core.Logic.{dite}
 use native.Mathlib.Decide.{ℕ_discrete}
 use lib.ListN.{get_elem?}
 use prog.Atomic.{either}
-use Rattle.atomic_table.specs.Table.{State, Me, Step, step, Act, keeps, opening, Allows, Splits, Joins}
+use Rattle.atomic_table.specs.Table.{Me, step, keeps, opening, Allows, Splits, Joins}
 use Rattle.atomic_table.proofs.Lists.{at_set, exchanged}
 use Rattle.arithmetic.specs.Numbers.{reduce}
 use Rattle.factor_table.specs.declared.parameters.Parameters.{Parameters}
 use Rattle.factor_table.specs.declared.table.View.{View}
 use Rattle.factor_table.specs.Places.{first_factor, words_of}
 use Rattle.factor_table.specs.Factors.{sizes_of}
-use Rattle.factor_table.specs.Rule.{AreFactors, Holds, IsFilledAt, IsFactorAt, Looks, Fills, with_place, looked, same, joined, spent, opening_view, first_words}
-use Rattle.factor_table.proofs.Views.{Fits, AllFit, all_fit, after_set, after_snoc, only_view, fits_place, fits_looked, fits_joined, fits_spent, fits_opening, fits_still}
+use Rattle.factor_table.specs.Rule.{AreFactors, Holds, IsFactorAt, Looks, Fills, with_place, looked, same, joined, spent, opening_view, first_words}
+use Rattle.factor_table.proofs.Views.{AllFit, all_fit, after_set, after_snoc, only_view, fits_place, fits_looked, fits_joined, fits_spent, fits_opening, fits_still}
 
 -- the rule with other views
 with_views : (p : Parameters) (words : List ℕ) (views after : List View) → AreFactors p words views → AllFit p words after → AreFactors p words after

@@ -1,12 +1,12 @@
 -- What the rule says of one view, and of all views after a step.
-use Rattle.std.proofs.Common.{◌≡◌, ◌≢◌, ℕ, zero, suc, ◌+◌, ◌<◌, ◌≤◌, ◌⊎◌, inl, inr, ⊎_elim, Bool, true, false, List, [], ◌∷◌, ◌++◌, length, set, get_or, Contains, sym, refl, subst, ap, ◌∙◌, arith}
+use Rattle.std.proofs.Common.{◌≡◌, ◌≢◌, ℕ, zero, suc, ⊎_elim, false, List, [], ◌∷◌, ◌++◌, set, get_or, Contains, sym, refl, subst, arith}
 use Rattle.std.proofs.lemmas.List.Elements.{Contains-push_cases, Contains-append_cases}
 use mathlib.Core.Option.{some, some-injective, some-ne-none}
 use lib.ListN.{get_elem?}
 use Rattle.atomic_table.proofs.Lists.{at_set, at_snoc}
 use Rattle.factor_table.specs.declared.parameters.Parameters.{Parameters}
 use Rattle.factor_table.specs.declared.table.View.{View}
-use Rattle.factor_table.specs.Rule.{AreFactors, IsFilledAt, IsFactorAt, with_place, looked, joined, spent, view, opening_view}
+use Rattle.factor_table.specs.Rule.{AreFactors, IsFilledAt, with_place, looked, joined, spent, opening_view}
 
 -- what the rule says of one view
 pub record Fits (p : Parameters) (words : List ℕ) (v : View) : Type 0 where

@@ -1,6 +1,5 @@
 -- Words and the answers that they stand for.
-use Rattle.std.proofs.Common.{◌≡◌, ◌≢◌, ℕ, ◌+◌, ◌-◌, ◌^◌, ◌<◌, ◌⊎◌, inl, inr, ⊎_elim, Result, Ok, Err, nat_abs, refl, sym, ap, ◌∙◌, subst, arith}
-use Rattle.arithmetic.specs.Numbers.{gcd}
+use Rattle.std.proofs.Common.{◌≡◌, ◌≢◌, ℕ, ◌-◌, ◌^◌, ◌<◌, inl, inr, Result, Ok, Err, refl, subst, arith}
 use Rattle.arithmetic.specs.Fractions.{Fraction, IsResidue}
 use Rattle.residue.specs.declared.errors.NoUnit.{NoUnit}
 use Rattle.residue.specs.Answers.{GivesResidue}

@@ -1,5 +1,5 @@
 -- Worked numbers: places, and words of keys.
-use Rattle.std.proofs.Common.{◌≡◌, ◌≢◌, ℕ, inl, inr, List, [], ◌∷◌, refl, pos, lit<, arith}
+use Rattle.std.proofs.Common.{◌≡◌, inl, inr, [], ◌∷◌, refl, pos, lit<, arith}
 use Rattle.std.proofs.lemmas.Nat.Gcd.{dvd_of_mod-eq-zero}
 use Rattle.arithmetic.specs.Numbers.{gcd}
 use Rattle.residue.specs.declared.class.Class.TheVariants.{R1}

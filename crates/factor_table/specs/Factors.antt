@@ -1,5 +1,5 @@
 -- The fraction of a key, and the word that stands for its residue.
-use Rattle.std.specs.Prelude.{◌≡◌, ◌≢◌, ℕ, ◌+◌, ◌<◌, ◌≤◌, ◌⊎◌, List, [], ◌∷◌, length, slice_index, slice_index_or, nat_abs, ℤ, pos, ◌-ℤ◌, Result, Ok, Err}
+use Rattle.std.specs.Prelude.{◌≡◌, ◌≢◌, ℕ, ◌+◌, ◌≤◌, ◌⊎◌, List, [], ◌∷◌, length, slice_index, slice_index_or, nat_abs, ℤ, pos, ◌-ℤ◌, Result, Ok, Err}
 use Rattle.arithmetic.specs.Numbers.{gcd}
 use Rattle.arithmetic.specs.Fractions.{Fraction, fraction, IsResidue}
 use Rattle.residue.specs.declared.errors.NoUnit.{NoUnit}

@@ -1,6 +1,5 @@
-use Rattle.std.proofs.Common.{ℕ, ◌<◌, ◌^◌, [], ◌∷◌, ◌++◌, take, get_or, below_more, sym, ap, subst, ◌∙◌}
-use Rattle.std.proofs.lemmas.Option.{get_or_from_slice_get}
-use Rattle.factor_table.proofs.Lists.{take_next, item_limited, item_copied}
+use Rattle.std.proofs.Common.{below_more}
+use Rattle.factor_table.proofs.Lists.{item_limited, item_copied}
 use Rattle.factor_table.proofs.copies.moduli_like.Goals as goal
 
 pub loop-index-preserved : goal.loop-index-preserved

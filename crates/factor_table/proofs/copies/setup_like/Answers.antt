@@ -1,4 +1,4 @@
-use Rattle.std.proofs.Common.{◌≡◌, ℕ, ◌<◌, ◌≤◌, List, length, take, get_or, take_all, ◌∙◌, sym, ap, subst, ℤ, pos, arith}
+use Rattle.std.proofs.Common.{◌≡◌, List, length, get_or, take_all, ◌∙◌, sym, ap, subst, ℤ, pos, arith}
 use Rattle.residue.specs.Limits.{IsWeight}
 use Rattle.factor_table.proofs.Refusals.{never_refused}
 use Rattle.factor_table.proofs.copies.setup_like.Goals as goal

@@ -1,4 +1,4 @@
-use Rattle.factor_table.proofs.Words.{value_of_word, no_unit_of_word}
+use Rattle.factor_table.proofs.Words.{value_of_word}
 use Rattle.factor_table.proofs.lookups.answer_of.Goals as goal
 
 pub returns-else-word-eq18446744073709551615 : goal.returns-else-word-eq18446744073709551615

@@ -1,4 +1,4 @@
-use Rattle.std.proofs.Common.{ℕ, [], ◌∷◌, ◌++◌, take, append_assoc, sym, ap, ◌∙◌}
+use Rattle.std.proofs.Common.{[], ◌∷◌, ◌++◌, take, append_assoc, ap, ◌∙◌}
 use Rattle.factor_table.proofs.Lists.{take_next}
 use Rattle.factor_table.proofs.opening.push_moduli.Goals as goal
 

@@ -1,5 +1,4 @@
-use Rattle.std.proofs.Common.{ℕ, ◌≤◌, ◌*◌, ap, arith}
-use Rattle.factor_table.specs.Places.{words_of_modulus}
+use Rattle.std.proofs.Common.{◌≤◌, ◌*◌, ap, arith}
 use Rattle.factor_table.proofs.Strides.{limited}
 use Rattle.factor_table.proofs.Digits.{product_le}
 use Rattle.factor_table.proofs.layout.Layout.at.Goals as goal

@@ -1,5 +1,5 @@
-use Rattle.std.proofs.Common.{arith, ◌∙◌}
-use Rattle.factor_table.specs.Places.{words_of, words_of_modulus}
+use Rattle.std.proofs.Common.{arith}
+use Rattle.factor_table.specs.Places.{words_of}
 use Rattle.factor_table.proofs.Strides.{limited, words_limited, strides_words}
 use Rattle.factor_table.proofs.layout.Layout.words.Goals as goal
 

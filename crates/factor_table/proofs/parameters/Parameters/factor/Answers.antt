@@ -1,4 +1,4 @@
-use Rattle.std.proofs.Common.{ℕ, Result, Ok, sym, subst}
+use Rattle.std.proofs.Common.{Ok, sym, subst}
 use Rattle.residue.specs.declared.class.Class.{Class}
 use Rattle.residue.specs.Answers.{GivesResidue}
 use Rattle.residue.proofs.Quotients.{whole_gives}

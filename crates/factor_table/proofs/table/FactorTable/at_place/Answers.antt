@@ -1,4 +1,4 @@
-use Rattle.std.proofs.Common.{◌≡◌, ◌≢◌, ℕ, subst, arith}
+use Rattle.std.proofs.Common.{subst, arith}
 use Rattle.factor_table.specs.Factors.{modulus_at, fraction_of}
 use Rattle.factor_table.specs.Rule.{IsFactorAt}
 use Rattle.factor_table.proofs.Keys.{from_first, below_count, found}

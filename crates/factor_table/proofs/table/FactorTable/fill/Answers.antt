@@ -1,5 +1,4 @@
-use Rattle.std.proofs.Common.{◌≡◌, ◌≢◌, ℕ, ◌∙◌, sym, subst, arith}
-use Rattle.factor_table.specs.Factors.{word_of}
+use Rattle.std.proofs.Common.{◌≢◌, sym, subst, arith}
 use Rattle.factor_table.proofs.Words.{word_not_zero}
 use Rattle.factor_table.proofs.Keys.{from_first, below_count, written}
 use Rattle.factor_table.proofs.Moves.{fills_told}

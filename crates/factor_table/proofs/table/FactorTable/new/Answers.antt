@@ -1,12 +1,9 @@
-use Rattle.std.proofs.Common.{◌≡◌, ℕ, ◌+◌, ◌<◌, ◌≤◌, [], ◌∷◌, ◌++◌, List, length, length-append, All, sym, ap, subst, ◌∙◌, arith}
+use Rattle.std.proofs.Common.{◌≡◌, ◌+◌, [], List, length, length-append, All, sym, ap, subst, ◌∙◌, arith}
 use Rattle.std.proofs.lemmas.List.Elements.{All-push}
 use Rattle.atomic_table.specs.Table.{Me}
-use Rattle.factor_table.specs.declared.parameters.Parameters.{Parameters}
 use Rattle.factor_table.specs.declared.table.FactorSeat.{FactorSeat}
 use Rattle.factor_table.specs.declared.table.View.{View}
 use Rattle.factor_table.specs.Places.{words_of}
-use Rattle.factor_table.specs.Factors.{sizes_of}
-use Rattle.factor_table.specs.Rule.{opening_view}
 use Rattle.factor_table.proofs.Keys.{some_word}
 use Rattle.factor_table.proofs.Strides.{words_limited}
 use Rattle.factor_table.proofs.Moves.{splits}
