@@ -118,12 +118,12 @@ fn a_second_seat_reads_what_the_first_has_filled(rt: HostRuntime) -> Result<(), 
 
 #[test]
 fn both_seats_find_that_a_bottom_is_no_unit(rt: HostRuntime) -> Result<(), Fail> {
-    let mut opened = open(&rt, rt.alloc(), &[1, 4], 3, &[9, 101], &[])?;
-    for (key, residue) in [
-        (Key::Flag { c: 0, u: 1, a: 1 }, 67),
+    for (degree, key, residue) in [
+        (1, Key::Flag { c: 0, u: 1, a: 1 }, 67),
         // (4 - 1) over 3 is 1, but 3 is no unit modulo 9.
-        (Key::Tip { c: 0, u: 1, a: 3 }, 1),
+        (3, Key::Tip { c: 0, u: 1, a: 3 }, 1),
     ] {
+        let mut opened = open(&rt, rt.alloc(), &[1, 4], degree, &[9, 101], &[])?;
         let first = ask(&rt, &opened.table, &mut opened.first, key, 0);
         let second = ask(&rt, &opened.table, &mut opened.second, key, 0);
         assert_eq!(rt; (first, second), (None, None), "{key:?} modulo 9");
