@@ -1,0 +1,4 @@
+pub mod Places
+pub mod Factors
+pub mod Rule
+pub mod Seats
