@@ -1,0 +1,1 @@
+//! Checkpoints whose texts come from outside.
