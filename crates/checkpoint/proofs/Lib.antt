@@ -1,1 +1,6 @@
 pub mod Loops
+pub mod Fits
+pub mod WordLaws
+pub mod Decimals
+pub mod Seals
+pub mod RowLaws

@@ -15,10 +15,14 @@ pub record StateView : Type 0 where
   pub next : ℕ
   pub residues : List ℕ
 
+-- each residue is below its modulus
+abbrev pub AreBelow : List ℕ → List ℕ → Type 0
+AreBelow moduli residues = (place : ℕ) → place < length residues → slice_index residues place < modulus_at moduli place
+
 -- there is one residue for each integral and modulus, and it is below its modulus
 pub record AreResidues (p : ProblemView) (residues : List ℕ) : Type 0 where
   pub one_each : length residues ≡ places_of p
-  pub below : (place : ℕ) → place < places_of p → slice_index residues place < modulus_at p.moduli place
+  pub below : AreBelow p.moduli residues
 
 -- the problem is the reading of the source, next is at most the number of trees, and the residues are below their moduli
 pub record IsState (s : StateView) : Type 0 where

@@ -34,7 +34,7 @@ fn problem(alloc: Global, source: &[u8]) -> Result<Problem, CheckpointError>
 }
 
 /// The state that a checkpoint writes.
-#[tactic(auto, unfolding(crate::specs::Readers::state_of))]
+#[tactic(auto, using(crate::proofs::Fits::numbers_count), unfolding(crate::specs::Readers::state_of))]
 fn state(alloc: Global, body: Body) -> Result<State, CheckpointError>
     ensures { Gives (λ state. state) result (state_of (contents_of body.entry)) }
 {
@@ -50,10 +50,10 @@ fn state(alloc: Global, body: Body) -> Result<State, CheckpointError>
     if body.rows.len() != wanted {
         return Err(CheckpointError::LineCount {
             found: shown_count(body.rows.len()),
-            wanted: shown_count(wanted),
+            wanted: wanted as u32,
         });
     }
-    check_counts(body.rows.as_slice(), shown_count(problem.moduli.len()))?;
+    check_counts(body.rows.as_slice(), problem.moduli.len() as u32)?;
     let residues = joined(alloc, body.rows.as_slice())?;
     check_residues(&problem.moduli, residues.as_slice())?;
     let source = Vec::from_slice(alloc, body.source)?;

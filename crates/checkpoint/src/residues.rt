@@ -1,9 +1,11 @@
 //! Rows of residues against the moduli of a problem.
 
-ghost use Rattle.std.specs.Prelude.{◌≡◌, ◌≤◌, length, replicate, IfOk};
+ghost use Rattle.std.specs.Prelude.{◌≡◌, ◌≤◌, ◌*◌, length, replicate, IfOk, OnOk};
 ghost use Rattle.std.specs.List.{concat};
+ghost use Rattle.localisation.specs.Agreement.{modulus_at};
 ghost use Rattle.checkpoint.specs.Bodies.{numbers_of};
 ghost use Rattle.checkpoint.specs.Readers.{shown_count, counts_fit, residues_fit};
+ghost use Rattle.checkpoint.specs.States.{AreBelow};
 ghost use Rattle.checkpoint.specs.Steps.{GivesSurely};
 
 use crate::error::CheckpointError;
@@ -18,9 +20,10 @@ pub(crate) fn shown_count(count: usize) -> u32
 }
 
 /// Each row has one residue for each modulus.
-#[tactic(auto, using(std::proofs::lemmas::List::drop_more))]
+#[tactic(auto, using(std::proofs::lemmas::List::drop_more, crate::proofs::Fits::counts_joined, crate::proofs::Fits::numbers_count))]
 pub(crate) fn check_counts(rows: &[Vec<u64>], wanted: u32) -> Result<(), CheckpointError>
-    ensures { GivesSurely (λ _. tt) result (counts_fit wanted (numbers_of rows.now)) }
+    ensures value { GivesSurely (λ _. tt) result (counts_fit wanted (numbers_of rows.now)) }
+    ensures joined { OnOk result (length (concat (numbers_of rows.now)) ≡ length rows.now * wanted) }
 {
     for row in rows {
         if row.len() != wanted as usize {
@@ -46,19 +49,29 @@ pub(crate) fn joined(alloc: Global, rows: &[Vec<u64>]) -> Result<Vec<u64>, NoMem
 }
 
 /// Each residue is below its modulus.
-#[tactic(auto, using(std::proofs::lemmas::List::drop_more))]
+#[tactic(auto, using(std::proofs::lemmas::List::drop_more, crate::proofs::Fits::residues_below))]
 pub(crate) fn check_residues(moduli: &Moduli, residues: &[u64]) -> Result<(), CheckpointError>
     requires { 1 ≤ length moduli.now }
-    ensures { GivesSurely (λ _. tt) result (residues_fit moduli.now 0 residues.now) }
+    ensures value { GivesSurely (λ _. tt) result (residues_fit moduli.now 0 residues.now) }
+    ensures below { OnOk result (AreBelow moduli.now residues.now) }
 {
     for (place, residue) in residues.iter().enumerate() {
-        if *residue >= moduli.get(place % moduli.len()).get() {
+        if *residue >= modulus_at(moduli, place) {
             return Err(CheckpointError::ResidueRefused {
                 place: shown_count(place),
             });
         }
     }
     Ok(())
+}
+
+/// The modulus at a place, where residues stand integral by integral.
+#[tactic(auto, using(std::proofs::lemmas::Option::get_or_from_slice_get))]
+fn modulus_at(moduli: &Moduli, place: usize) -> u64
+    requires { 1 ≤ length moduli.now }
+    ensures { result ≡ modulus_at moduli.now place }
+{
+    moduli.get(place % moduli.len()).get()
 }
 
 /// So many residues 0.

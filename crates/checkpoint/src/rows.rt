@@ -101,6 +101,7 @@ fn append_residues(text: &mut Vec<u8>, residues: &[u64]) -> Result<(), NoMemory>
 }
 
 /// Appends so many lines of residues, each of as many as there are moduli.
+#[tactic(auto, using(crate::proofs::RowLaws::rows_next, crate::proofs::RowLaws::rows_room, std::proofs::Common::append_assoc))]
 pub(crate) fn append_rows(
     text: &mut Vec<u8>,
     count: usize,
