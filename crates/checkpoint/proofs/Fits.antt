@@ -2,7 +2,7 @@
 use Rattle.std.proofs.Common.{◌≡◌, ◌≢◌, ◌⊎◌, ℕ, zero, suc, ◌+◌, ◌-◌, ◌*◌, ◌^◌, ◌≤◌, ◌<◌, min, Bool, true, false, cond, eqb, ltb, List, [], ◌∷◌, ◌++◌, length, get_or, drop, Result, Ok, Err, refl, sym, ap, subst, ◌∙◌, append_assoc, length-append, arith, inl, inr}
 use Rattle.std.specs.List.{concat, AllByRecursion}
 use Rattle.std.proofs.lemmas.Bool.{eqb-true, eqb-false, ltb-true, ltb-false, lt-ltb, le-ltb, eq-eqb, ne_eqb}
-use Rattle.std.proofs.lemmas.List.{drop_more}
+use Rattle.std.proofs.lemmas.List.{drop_more, drop_all}
 use Rattle.localisation.specs.Agreement.{modulus_at}
 use Rattle.std.specs.Global.{Vec}
 use Rattle.checkpoint.specs.Bodies.{numbers_of}
@@ -82,7 +82,7 @@ counts_fit_other m (row ∷ rows) e h =
           is = sym fault.1;
           first = record { place = 0; within = omega arith; count = refl; other = eqb-false _ _ fault.0; first = λ j lt. absurd (omega arith) };
         }
-      | inr yes ↦ FirstOther-later m row rows e (eqb-true _ _ yes.0) (counts_fit_other m rows e yes.1)
+      | inr past ↦ FirstOther-later m row rows e (eqb-true _ _ past.0) (counts_fit_other m rows e past.1)
     ]
 
 pub counts_fit_at : (m : ℕ) (rows : List (List ℕ)) (found i : ℕ) → i < length rows → length (get_or rows i []) ≡ found → found ≢ m → ((j : ℕ) → j < i → length (get_or rows j []) ≡ m)
@@ -147,7 +147,7 @@ residues_fit_above ms i (x ∷ xs) e h =
           refused = subst (λ (p : ℕ). modulus_at ms p ≤ x) (omega arith) (ltb-false _ _ fault.0);
           first = λ j lt. absurd (omega arith);
         }
-      | inr yes ↦ FirstAbove-later ms i x xs e (ltb-true _ _ yes.0) (residues_fit_above ms (i + 1) xs e yes.1)
+      | inr past ↦ FirstAbove-later ms i x xs e (ltb-true _ _ past.0) (residues_fit_above ms (i + 1) xs e past.1)
     ]
 
 pub residues_fit_at : (ms : List ℕ) (i : ℕ) (xs : List ℕ) (place : ℕ) → place < length xs → modulus_at ms (i + place) ≤ get_or xs place 0 → ((j : ℕ) → j < place → get_or xs j 0 < modulus_at ms (i + j))
@@ -170,3 +170,13 @@ module _ (ms xs : List ℕ) (i x : ℕ) where
 
   pub residue_fails : i < length xs → get_or xs i 0 ≡ x → modulus_at ms i ≤ x → residues_fit ms i (drop i xs) ≡ Err (ResidueRefused (shown_count i))
   residue_fails lt is above = rw (drop_more xs i 0 lt, is, le-ltb x (modulus_at ms i) above) refl
+
+  pub residues_done : residues_fit ms i (drop i xs) ≡ residues_fit ms 0 xs → length xs ≤ i → AreBelow ms xs
+  residues_done so_far le =
+      let none : residues_fit ms i (drop i xs) ≡ Ok tt = rw (drop_all i xs le) refl in
+      residues_below ms xs (sym so_far ∙ none)
+
+pub counts_done : (m : ℕ) (rows : List (Vec ℕ)) (i : ℕ) → counts_fit m (numbers_of (drop i rows)) ≡ counts_fit m (numbers_of rows) → length rows ≤ i → length (concat (numbers_of rows)) ≡ length rows * m
+counts_done m rows i so_far le =
+    let none : counts_fit m (numbers_of (drop i rows)) ≡ Ok tt = rw (drop_all i rows le) refl in
+    counts_joined m (numbers_of rows) (sym so_far ∙ none) ∙ ap (λ (k : ℕ). k * m) (numbers_count rows)

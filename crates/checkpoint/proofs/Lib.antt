@@ -4,3 +4,5 @@ pub mod WordLaws
 pub mod Decimals
 pub mod Seals
 pub mod RowLaws
+pub mod StateLaws
+pub mod BodyLaws

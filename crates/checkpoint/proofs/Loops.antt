@@ -1,6 +1,7 @@
 -- Reading items one after the other, as a loop does.
-use Rattle.std.proofs.Common.{◌≡◌, ℕ, zero, suc, ◌+◌, ◌-◌, ◌≤◌, ◌<◌, Bool, true, false, List, [], ◌∷◌, ◌++◌, length, Result, Ok, Err, refl, sym, ap, ◌∙◌, append_assoc, length-append, arith}
-use Rattle.std.proofs.lemmas.List.{append-nil}
+use Rattle.std.proofs.Common.{◌≡◌, ℕ, zero, suc, ◌+◌, ◌-◌, ◌≤◌, ◌<◌, Bool, true, false, eqb, List, [], ◌∷◌, ◌++◌, length, Result, Ok, Err, refl, sym, ap, ◌∙◌, append_assoc, length-append, arith}
+use Rattle.std.proofs.lemmas.List.{append-nil, nil_from_length}
+use Rattle.std.proofs.lemmas.Bool.{eqb-true}
 use Rattle.checkpoint.specs.Readers.{many, starts_with_space, goes_on}
 use Rattle.checkpoint.specs.Steps.{◌>>=◌}
 use Rattle.checkpoint.specs.declared.error.CheckpointError.{CheckpointError}
@@ -69,10 +70,14 @@ pub going_is_some : (text : List ℕ) → goes_on text ≡ true → 0 < length t
 going_is_some [] h = absurd cc
 going_is_some (b ∷ bs) h = omega arith
 
-pub goes_on-some : (text : List ℕ) → 0 < length text → goes_on text ≡ true
-goes_on-some [] h = absurd (omega arith)
-goes_on-some (b ∷ bs) h = refl
+-- the test that the code makes
+pub going : (text : List ℕ) → eqb (length text) 0 ≡ false → goes_on text ≡ true
+going [] h = absurd cc
+going (b ∷ bs) h = refl
 
-pub goes_on-none : (text : List ℕ) → length text ≡ 0 → goes_on text ≡ false
-goes_on-none [] h = refl
-goes_on-none (b ∷ bs) h = absurd (omega arith)
+pub gone : (text : List ℕ) → eqb (length text) 0 ≡ true → goes_on text ≡ false
+gone [] h = refl
+gone (b ∷ bs) h = absurd (omega (arith, eqb-true (length (b ∷ bs)) 0 h))
+
+pub none_left : (text : List ℕ) → eqb (length text) 0 ≡ true → text ≡ []
+none_left text h = nil_from_length text (eqb-true _ _ h)

@@ -130,7 +130,7 @@ residue_again : (r : ℕ) (rest : List ℕ) → IsNumber r → NoDigit rest → 
 unfolding residue_at
 residue_again r rest small ends =
     let regrouped : residue_text r ++ rest ≡ codes " " ++ (decimal r ++ rest) = append_assoc (codes " ") (decimal r) rest in
-    ap residue_at regrouped ∙ rw (after_word_again (codes " ") (decimal r ++ rest), decimal_again r rest small ends) refl
+    ap residue_at regrouped ∙ rw (decimal_again r rest small ends) refl
 
 residue_err : (text : List ℕ) (e : CheckpointError) → residue_at text ≡ Err e → e ≡ BadBody
 unfolding residue_at
@@ -186,7 +186,7 @@ unfolding row_at
 row_again row rest fits u =
     let regrouped : residue_line row ++ rest ≡ codes "residues" ++ (flat_map residue_text row ++ (codes "\n" ++ rest)) = simp append_assoc in
     let some : eqb (length row) 0 ≡ false = ne_eqb (length row) 0 (λ none. absurd (omega (arith, none, fits.some))) in
-    ap row_at regrouped ∙ rw (after_word_again (codes "residues") (flat_map residue_text row ++ (codes "\n" ++ rest)), residues_again row rest fits.numbers, some) refl
+    ap row_at regrouped ∙ rw (residues_again row rest fits.numbers, some) refl
 
 row_err : (text : List ℕ) (e : CheckpointError) → row_at text ≡ Err e → e ≡ BadBody
 unfolding row_at

@@ -72,6 +72,4 @@ pub unsealed_again : (body kept : List ℕ) → IsDigest kept → unsealed_at (b
 unfolding unsealed_at
 unsealed_again body kept digest =
     let n : length (body ++ seal kept) - 72 ≡ length body = omega (arith, length-append body (seal kept), length-seal kept digest) in
-    let regrouped : seal kept ≡ codes "sha256 " ++ (encode_lower kept ++ codes "\n") = append_assoc (codes "sha256 ") (encode_lower kept) (codes "\n") in
-    let line : after_word (codes "sha256 ") (seal kept) ≡ Some (encode_lower kept ++ codes "\n") = ap (after_word (codes "sha256 ")) regrouped ∙ after_word_again (codes "sha256 ") (encode_lower kept ++ codes "\n") in
-    rw (n, take_at body (seal kept) (length body) refl, drop_at body (seal kept) (length body) refl, line, before_word_again (codes "\n") (encode_lower kept), digest_again kept digest) refl
+    rw (n, take_at body (seal kept) (length body) refl, drop_at body (seal kept) (length body) refl, before_word_again (codes "\n") (encode_lower kept), digest_again kept digest) refl

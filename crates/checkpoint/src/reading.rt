@@ -34,7 +34,7 @@ fn problem(alloc: Global, source: &[u8]) -> Result<Problem, CheckpointError>
 }
 
 /// The state that a checkpoint writes.
-#[tactic(auto, using(crate::proofs::Fits::numbers_count), unfolding(crate::specs::Readers::state_of))]
+#[tactic(auto, unfolding(crate::specs::Readers::state_of))]
 fn state(alloc: Global, body: Body) -> Result<State, CheckpointError>
     ensures { Gives (λ state. state) result (state_of (contents_of body.entry)) }
 {

@@ -20,7 +20,7 @@ pub(crate) fn shown_count(count: usize) -> u32
 }
 
 /// Each row has one residue for each modulus.
-#[tactic(auto, using(std::proofs::lemmas::List::drop_more, crate::proofs::Fits::counts_joined, crate::proofs::Fits::numbers_count))]
+#[tactic(auto, using(std::proofs::lemmas::List::drop_more))]
 pub(crate) fn check_counts(rows: &[Vec<u64>], wanted: u32) -> Result<(), CheckpointError>
     ensures value { GivesSurely (λ _. tt) result (counts_fit wanted (numbers_of rows.now)) }
     ensures joined { OnOk result (length (concat (numbers_of rows.now)) ≡ length rows.now * wanted) }
@@ -49,7 +49,7 @@ pub(crate) fn joined(alloc: Global, rows: &[Vec<u64>]) -> Result<Vec<u64>, NoMem
 }
 
 /// Each residue is below its modulus.
-#[tactic(auto, using(std::proofs::lemmas::List::drop_more, crate::proofs::Fits::residues_below))]
+#[tactic(auto, using(std::proofs::lemmas::List::drop_more))]
 pub(crate) fn check_residues(moduli: &Moduli, residues: &[u64]) -> Result<(), CheckpointError>
     requires { 1 ≤ length moduli.now }
     ensures value { GivesSurely (λ _. tt) result (residues_fit moduli.now 0 residues.now) }
