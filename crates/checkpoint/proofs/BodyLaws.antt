@@ -149,14 +149,14 @@ contents_err version text e h =
 
 -- ---- the parts of a text
 
-known_test : (v : ℕ) → (eqb v 1 || eqb v 2) ≡ true → IsKnownVersion v
+pub known_test : (v : ℕ) → (eqb v 1 || eqb v 2) ≡ true → IsKnownVersion v
 known_test v h =
     elim (or_cases (eqb v 1) (eqb v 2) h) [
       | inl one ↦ inl (eqb-true v 1 one)
       | inr two ↦ inr (eqb-true v 2 two)
     ]
 
-unknown_test : (v : ℕ) → (eqb v 1 || eqb v 2) ≡ false → ¬ (IsKnownVersion v)
+pub unknown_test : (v : ℕ) → (eqb v 1 || eqb v 2) ≡ false → ¬ (IsKnownVersion v)
 unknown_test v h known =
     let parts = or_parts (eqb v 1) (eqb v 2) h in
     elim known [
@@ -177,17 +177,17 @@ bytes_same xs ys h = (bytes_eq-Decides xs ys).1 h
 bytes_differ : (xs ys : List ℕ) → xs ≢ ys → bytes_eq xs ys ≡ false
 bytes_differ xs ys h = false_from_ne_true _ (λ same. h ((bytes_eq-Decides xs ys).0 same))
 
-parts_take : (text body kept : List ℕ) (v : ℕ) (rest : List ℕ) → unsealed_at text ≡ Some (body, kept) → number_line_at (codes "locus-checkpoint ") body ≡ Some (v, rest)
+pub parts_take : (text body kept : List ℕ) (v : ℕ) (rest : List ℕ) → unsealed_at text ≡ Some (body, kept) → number_line_at (codes "locus-checkpoint ") body ≡ Some (v, rest)
     → HasParts text (record { kept = kept; body = body; version = v; rest = rest })
 parts_take text body kept v rest sealed first =
     let s = unsealed_takes text body kept sealed in
     let n = number_line_takes (codes "locus-checkpoint ") body v rest first in
     record { whole = s.whole; digest = s.digest; first_line = n.parts; version = n.fits }
 
-parts_sealed : (text : List ℕ) (p : Parts) → HasParts text p → unsealed_at text ≡ Some (p.body, p.kept)
+pub parts_sealed : (text : List ℕ) (p : Parts) → HasParts text p → unsealed_at text ≡ Some (p.body, p.kept)
 parts_sealed text p has = ap unsealed_at has.whole ∙ unsealed_again p.body p.kept has.digest
 
-parts_first : (text : List ℕ) (p : Parts) → HasParts text p → number_line_at (codes "locus-checkpoint ") p.body ≡ Some (p.version, p.rest)
+pub parts_first : (text : List ℕ) (p : Parts) → HasParts text p → number_line_at (codes "locus-checkpoint ") p.body ≡ Some (p.version, p.rest)
 parts_first text p has = ap (number_line_at (codes "locus-checkpoint ")) has.first_line ∙ number_line_again (codes "locus-checkpoint ") p.version p.rest has.version
 
 parts_written : (text : List ℕ) (p : Parts) → HasParts text p → written_at text ≡ sound_at p.kept p.body p.version p.rest

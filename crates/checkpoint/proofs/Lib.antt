@@ -6,3 +6,6 @@ pub mod Seals
 pub mod RowLaws
 pub mod StateLaws
 pub mod BodyLaws
+pub mod TextLaws
+pub mod WrittenStates
+pub mod ReadingLaws
