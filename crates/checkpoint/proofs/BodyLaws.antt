@@ -124,8 +124,12 @@ unfolding contents_at
 contents_again c are =
     let after = number_line (codes "next ") c.next ++ flat_map residue_line c.rows in
     let regrouped : rest_of c ≡ source_text c.source ++ after = append_assoc (source_text c.source) (number_line (codes "next ") c.next) (flat_map residue_line c.rows) in
-    ap (contents_at c.version) regrouped ∙ rw (source_again c.source after are.source, number_line_again (codes "next ") c.next (flat_map residue_line c.rows) are.next, rows_again c.rows are.rows,
-        rows_pass c.version (length c.rows) are.some are.one) refl
+    ap (contents_at c.version) regrouped ∙ rw (
+      source_again c.source after are.source,
+      number_line_again (codes "next ") c.next (flat_map residue_line c.rows) are.next,
+      rows_again c.rows are.rows,
+      rows_pass c.version (length c.rows) are.some are.one,
+    ) refl
 
 pub contents_err : (version : ℕ) (text : List ℕ) (e : CheckpointError) → contents_at version text ≡ Err e → e ≡ BadBody
 unfolding contents_at

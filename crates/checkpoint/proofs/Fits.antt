@@ -78,10 +78,10 @@ counts_fit_other m [] e h = absurd cc
 counts_fit_other m (row ∷ rows) e h =
     elim (keep_err (eqb (length row) m) (ResidueCount (shown_count (length row)) m) e (counts_fit m rows) h) [
       | inl fault ↦ record {
-          found = length row;
-          is = sym fault.1;
-          first = record { place = 0; within = omega arith; count = refl; other = eqb-false _ _ fault.0; first = λ j lt. absurd (omega arith) };
-        }
+        found = length row;
+        is = sym fault.1;
+        first = record { place = 0; within = omega arith; count = refl; other = eqb-false _ _ fault.0; first = λ j lt. absurd (omega arith) };
+      }
       | inr past ↦ FirstOther-later m row rows e (eqb-true _ _ past.0) (counts_fit_other m rows e past.1)
     ]
 
@@ -141,12 +141,12 @@ residues_fit_above ms i [] e h = absurd cc
 residues_fit_above ms i (x ∷ xs) e h =
     elim (keep_err (ltb x (modulus_at ms i)) (ResidueRefused (shown_count i)) e (residues_fit ms (i + 1) xs) h) [
       | inl fault ↦ record {
-          place = 0;
-          is = sym fault.1 ∙ ap (λ (p : ℕ). ResidueRefused (shown_count p)) (omega arith);
-          within = omega arith;
-          refused = subst (λ (p : ℕ). modulus_at ms p ≤ x) (omega arith) (ltb-false _ _ fault.0);
-          first = λ j lt. absurd (omega arith);
-        }
+        place = 0;
+        is = sym fault.1 ∙ ap (λ (p : ℕ). ResidueRefused (shown_count p)) (omega arith);
+        within = omega arith;
+        refused = subst (λ (p : ℕ). modulus_at ms p ≤ x) (omega arith) (ltb-false _ _ fault.0);
+        first = λ j lt. absurd (omega arith);
+      }
       | inr past ↦ FirstAbove-later ms i x xs e (ltb-true _ _ past.0) (residues_fit_above ms (i + 1) xs e past.1)
     ]
 
@@ -159,7 +159,7 @@ residues_fit_at ms i (x ∷ xs) zero lt above first =
 residues_fit_at ms i (x ∷ xs) (suc place) lt above first =
     let yes : ltb x (modulus_at ms i) ≡ true = lt-ltb _ _ (subst (λ (p : ℕ). x < modulus_at ms p) (omega arith) (first 0 (omega arith))) in
     let later = residues_fit_at ms (i + 1) xs place (omega arith) (subst (λ (p : ℕ). modulus_at ms p ≤ get_or xs place 0) (omega arith) above)
-            (λ j below. subst (λ (p : ℕ). get_or xs j 0 < modulus_at ms p) (omega arith) (first (suc j) (omega arith))) in
+    (λ j below. subst (λ (p : ℕ). get_or xs j 0 < modulus_at ms p) (omega arith) (first (suc j) (omega arith))) in
     rw (yes, later) (ap (λ (p : ℕ). Err (ResidueRefused (shown_count p))) (omega arith))
 
 -- ---- the loops of the code

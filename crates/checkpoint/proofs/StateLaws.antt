@@ -132,11 +132,16 @@ state_err text c e w h =
                                   let above = residues_fit_above p.moduli 0 (concat c.rows) e residues in
                                   let shown : above.place ≡ shown_count (0 + above.place) = sym (size.place above.place above.within) ∙ ap shown_count (omega arith) in
                                   let all : HasResidues p text c = record { written = rows; residues = counts_fit_each (length p.moduli) c.rows b.1 } in
-                                  subst (IsRefusal text) (ap (λ (n : ℕ). ResidueRefused n) shown ∙ sym above.is) (c, p, all, record {
-                                    within = above.within;
-                                    refused = subst (λ (n : ℕ). modulus_at p.moduli n ≤ get_or (concat c.rows) above.place 0) (omega arith) above.refused;
-                                    first = λ j lt. subst (λ (n : ℕ). get_or (concat c.rows) j 0 < modulus_at p.moduli n) (omega arith) (above.first j lt);
-                                  })
+                                  subst (IsRefusal text) (ap (λ (n : ℕ). ResidueRefused n) shown ∙ sym above.is) (
+                                    c,
+                                    p,
+                                    all,
+                                    record {
+                                      within = above.within;
+                                      refused = subst (λ (n : ℕ). modulus_at p.moduli n ≤ get_or (concat c.rows) above.place 0) (omega arith) above.refused;
+                                      first = λ j lt. subst (λ (n : ℕ). get_or (concat c.rows) j 0 < modulus_at p.moduli n) (omega arith) (above.first j lt);
+                                    },
+                                  )
                               | inr d ↦ absurd (cc d.2)
                             ]
                       ]
@@ -164,7 +169,7 @@ refused_counts text c p found rows first =
     let next = rows.written in
     let shown : shown_count found ≡ found = ap shown_count (sym first.count) ∙ (sizes text c next.written.writes).row first.place ∙ first.count in
     at_counts c p (read_of text c p next.written) (ResidueCount found (length p.moduli)) next.next rows.rows
-        (counts_fit_at (length p.moduli) c.rows found first.place first.within first.count first.other first.first ∙ ap (λ (n : ℕ). Err (ResidueCount n (length p.moduli))) shown)
+    (counts_fit_at (length p.moduli) c.rows found first.place first.within first.count first.other first.first ∙ ap (λ (n : ℕ). Err (ResidueCount n (length p.moduli))) shown)
 
 pub refused_residues : (text : List ℕ) (c : Contents) (p : ProblemView) (place : ℕ) → HasResidues p text c → IsFirstRefused p.moduli (concat c.rows) place → state_of c ≡ Err (ResidueRefused place)
 refused_residues text c p place all first =
@@ -172,6 +177,6 @@ refused_residues text c p place all first =
     let next = rows.written in
     let shown : shown_count (0 + place) ≡ place = ap shown_count (omega arith) ∙ (sizes text c next.written.writes).place place first.within in
     at_residues c p (read_of text c p next.written) (ResidueRefused place) next.next rows.rows (counts_fit_from (length p.moduli) c.rows all.residues)
-        (residues_fit_at p.moduli 0 (concat c.rows) place first.within (subst (λ (n : ℕ). modulus_at p.moduli n ≤ get_or (concat c.rows) place 0) (omega arith) first.refused)
-            (λ j lt. subst (λ (n : ℕ). get_or (concat c.rows) j 0 < modulus_at p.moduli n) (omega arith) (first.first j lt))
-        ∙ ap (λ (n : ℕ). Err (ResidueRefused n)) shown)
+    (residues_fit_at p.moduli 0 (concat c.rows) place first.within (subst (λ (n : ℕ). modulus_at p.moduli n ≤ get_or (concat c.rows) place 0) (omega arith) first.refused)
+    (λ j lt. subst (λ (n : ℕ). get_or (concat c.rows) j 0 < modulus_at p.moduli n) (omega arith) (first.first j lt))
+    ∙ ap (λ (n : ℕ). Err (ResidueRefused n)) shown)

@@ -112,7 +112,7 @@ module _ (text : List ℕ) (fits : Fits text) (p : Parts) (has : HasParts text p
   written_whole : (c : Contents) → p.kept ≡ sha256 p.body → ContentsIn p.version p.rest c → Writes text c
   written_whole c sound found =
       let body : p.body ≡ body_of c = has.first_line ∙ ap (λ (v : ℕ). number_line (codes "locus-checkpoint ") v ++ p.rest) (sym found.version_is)
-              ∙ ap (λ (r : List ℕ). number_line (codes "locus-checkpoint ") c.version ++ r) found.parts ∙ sym (body_is c) in
+      ∙ ap (λ (r : List ℕ). number_line (codes "locus-checkpoint ") c.version ++ r) found.parts ∙ sym (body_is c) in
       record {
         fits = fits;
         contents = found.contents;
@@ -130,7 +130,7 @@ module _ (text : List ℕ) (fits : Fits text) (p : Parts) (has : HasParts text p
   no_contents : (e : CheckpointError) → contents_at p.version p.rest ≡ Err e → (c : Contents) → AreContents c → p.body ≢ body_of c
   no_contents e h c are same =
       let here : number_line_at (codes "locus-checkpoint ") p.body ≡ Some (c.version, rest_of c) = ap (number_line_at (codes "locus-checkpoint ")) (same ∙ body_is c)
-              ∙ number_line_again (codes "locus-checkpoint ") c.version (rest_of c) (known_small c.version are.version) in
+      ∙ number_line_again (codes "locus-checkpoint ") c.version (rest_of c) (known_small c.version are.version) in
       let pair = some_pair_parts p.version c.version p.rest (rest_of c) (sym (parts_first text p has) ∙ here) in
       let read : contents_at p.version p.rest ≡ Ok c = ap (λ (v : ℕ). contents_at v p.rest) pair.0 ∙ ap (contents_at c.version) pair.1 ∙ contents_again c are in
       let clash = sym h ∙ read in
@@ -156,7 +156,7 @@ module _ (text : List ℕ) (fits : Fits text) (p : Parts) (has : HasParts text p
       by_result (Ok c) h =
           let found = contents_take p.version p.rest c known h in
           absurd (none c found.contents (has.first_line ∙ ap (λ (v : ℕ). number_line (codes "locus-checkpoint ") v ++ p.rest) (sym found.version_is)
-              ∙ ap (λ (r : List ℕ). number_line (codes "locus-checkpoint ") c.version ++ r) found.parts ∙ sym (body_is c)))
+          ∙ ap (λ (r : List ℕ). number_line (codes "locus-checkpoint ") c.version ++ r) found.parts ∙ sym (body_is c)))
       by_result (Err e) h = ap (λ (d : CheckpointError). Err d) (contents_err p.version p.rest e h)
 
 -- ---- a whole text
@@ -187,9 +187,12 @@ written_err text e fits h =
             | inl second ↦
                 let none = ok_or_err _ _ _ second in
                 let sealed = ok_or_ok _ _ _ a.1 in
-                subst (IsRefusal text) none.1 (fits, λ p has.
-                    let same = some_pair_parts p.body a.0.0 p.kept a.0.1 (sym (parts_sealed text p has) ∙ sealed) in
-                    some_none (p.version, p.rest) (number_line_at (codes "locus-checkpoint ") a.0.0) (ap (number_line_at (codes "locus-checkpoint ")) (sym same.0) ∙ parts_first text p has) none.0)
+                subst (IsRefusal text) none.1 (
+                  fits,
+                  λ p has.
+                      let same = some_pair_parts p.body a.0.0 p.kept a.0.1 (sym (parts_sealed text p has) ∙ sealed) in
+                      some_none (p.version, p.rest) (number_line_at (codes "locus-checkpoint ") a.0.0) (ap (number_line_at (codes "locus-checkpoint ")) (sym same.0) ∙ parts_first text p has) none.0,
+                )
             | inr b ↦
                 let p : Parts = record { kept = a.0.1; body = a.0.0; version = b.0.0; rest = b.0.1 } in
                 sound_err text fits p (parts_take text a.0.0 a.0.1 b.0.0 b.0.1 (ok_or_ok _ _ _ a.1) (ok_or_ok _ _ _ b.1)) e b.2

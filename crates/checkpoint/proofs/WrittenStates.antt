@@ -98,7 +98,7 @@ module _ (v : ℕ) (s : StateView) (is : IsState s) (known : IsKnownVersion v) (
   state_again =
       let joined = concat_rows_of m n s.residues is.residues.one_each in
       let fit : residues_fit s.problem.moduli 0 (concat (rows_of m n s.residues)) ≡ Ok tt = ap (residues_fit s.problem.moduli 0) joined
-              ∙ residues_fit_from s.problem.moduli 0 s.residues (λ j lt. subst (λ (k : ℕ). get_or s.residues j 0 < modulus_at s.problem.moduli k) (omega arith) (is.residues.below j lt)) in
+      ∙ residues_fit_from s.problem.moduli 0 s.residues (λ j lt. subst (λ (k : ℕ). get_or s.residues j 0 < modulus_at s.problem.moduli k) (omega arith) (is.residues.below j lt)) in
       at_state (contents_in v s) s.problem (ap problem_of is.problem) is.next (length_rows_of m n s.residues) (counts_fit_from m (rows_of m n s.residues) (each_row_of m n s.residues is.residues.one_each)) fit
       ∙ ap (λ (xs : List ℕ). Ok (record { source = s.source; problem = s.problem; next = s.next; residues = xs })) joined
 
@@ -156,8 +156,17 @@ module _ (v : ℕ) (s : StateView) (is : IsState s) (known : IsKnownVersion v) (
       let k = seal (sha256 (body_of c)) in
       let version : v < 2 ^ 64 = known_small known in
       let rows = rows_short m (rows_of m n s.residues) is.rules.moduli.most are.rows (each_row_of m n s.residues is.residues.one_each) in
-      omega (arith, sum_of_five a t x f k, line_short (codes "locus-checkpoint ") v version, source_line_short s.source (source_short s.source s.problem is.problem),
-          line_short (codes "next ") s.next are.next, rows, length_rows_of m n s.residues, is.rules.few_integrals, length-seal (sha256 (body_of c)) (sha256_digest (body_of c)))
+      omega (
+        arith,
+        sum_of_five a t x f k,
+        line_short (codes "locus-checkpoint ") v version,
+        source_line_short s.source (source_short s.source s.problem is.problem),
+        line_short (codes "next ") s.next are.next,
+        rows,
+        length_rows_of m n s.residues,
+        is.rules.few_integrals,
+        length-seal (sha256 (body_of c)) (sha256_digest (body_of c)),
+      )
     where
       known_small : IsKnownVersion v → v < 2 ^ 64
       known_small (inl one) = omega arith

@@ -114,7 +114,7 @@ contents_at version text = do
   next ← ok_or (number_line_at (codes "next ") source.1) BadBody
   rows ← rows_at next.1
   if length rows.0 == 0 || (version == 1 && not (length rows.0 == 1)) then Err BadBody
-    else Ok (record { version = version; source = source.0; next = next.0; rows = rows.0 })
+      else Ok (record { version = version; source = source.0; next = next.0; rows = rows.0 })
 
 unfoldable pub sound_at : List ℕ → List ℕ → ℕ → List ℕ → Result Contents CheckpointError
 sound_at kept body version rest = do

@@ -81,7 +81,8 @@ pub(crate) fn written(alloc: Global, text: &[u8]) -> Result<Body, CheckpointErro
     ensures { Gives (λ body. contents_of body) result (written_at text.now) }
 {
     let (text, kept) = unsealed(text).ok_or(CheckpointError::NotCheckpoint)?;
-    let (version, rest) =
-        number_line(text, b"locus-checkpoint ").ok_or(CheckpointError::NotCheckpoint)?;
+    let (version, rest) = number_line(text, b"locus-checkpoint ").ok_or(
+        CheckpointError::NotCheckpoint,
+    )?;
     sound_body(alloc, kept, text, version, rest)
 }

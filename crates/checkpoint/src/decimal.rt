@@ -74,7 +74,11 @@ pub(crate) fn append_decimal(text: &mut Vec<u8>, number: u64) -> Result<(), NoMe
 
 /// Appends a word, a number and a line feed.
 #[tactic(auto, using(std::proofs::Common::append_assoc))]
-pub(crate) fn append_number_line(text: &mut Vec<u8>, word: &[u8], number: u64) -> Result<(), NoMemory>
+pub(crate) fn append_number_line(
+    text: &mut Vec<u8>,
+    word: &[u8],
+    number: u64,
+) -> Result<(), NoMemory>
     ensures { OnOk result (text.new.items ≡ text.old.items ++ number_line word.now number) }
 {
     text.extend_from_slice(word)?;

@@ -17,39 +17,21 @@ pub enum CheckpointError {
     /// decimal.
     NotCheckpoint,
     /// The digest that the last line keeps is not the one that SHA-256 gives of what stands before that line.
-    Damaged {
-        kept: [u8; 32],
-        computed: [u8; 32],
-    },
+    Damaged { kept: [u8; 32], computed: [u8; 32] },
     /// The version is neither 1 nor 2.
-    BadVersion {
-        version: u64,
-    },
+    BadVersion { version: u64 },
     /// The lines between the first and the last are not those of a checkpoint.
     BadBody,
     /// The source is no problem.
-    ProblemRefused {
-        why: ProblemError,
-    },
+    ProblemRefused { why: ProblemError },
     /// The next number is above the number of trees.
-    NextTooLarge {
-        next: u64,
-        count: u64,
-    },
+    NextTooLarge { next: u64, count: u64 },
     /// There are not as many `residues` lines as integrals.
-    LineCount {
-        found: u32,
-        wanted: u32,
-    },
+    LineCount { found: u32, wanted: u32 },
     /// A line has not as many residues as there are moduli; the first such line.
-    ResidueCount {
-        found: u32,
-        wanted: u32,
-    },
+    ResidueCount { found: u32, wanted: u32 },
     /// A residue is not below its modulus; the first such place, counted from 0 through all lines.
-    ResidueRefused {
-        place: u32,
-    },
+    ResidueRefused { place: u32 },
 }
 
 impl CheckpointError {

@@ -63,11 +63,7 @@ fn append_problem(line: &mut Vec<u8>, why: &problem_toml::ProblemError) -> Resul
     problem_toml::append_refusal(line, why)
 }
 
-fn append_whole(
-    alloc: Global,
-    line: &mut Vec<u8>,
-    error: &CheckpointError,
-) -> Result<(), NoMemory>
+fn append_whole(alloc: Global, line: &mut Vec<u8>, error: &CheckpointError) -> Result<(), NoMemory>
     ensures { OnOk result (line.new.items ≡ line.old.items ++ refusal_of error.now) }
 {
     match error {
