@@ -9,3 +9,4 @@ pub mod BodyLaws
 pub mod TextLaws
 pub mod WrittenStates
 pub mod ReadingLaws
+pub mod FirstStates

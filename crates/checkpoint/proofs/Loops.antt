@@ -9,35 +9,35 @@ use Rattle.checkpoint.specs.declared.error.CheckpointError.{CheckpointError}
 abbrev pub Reader : Type 0 → Type 0
 Reader X = List ℕ → Result (X × List ℕ) CheckpointError
 
--- what was read, after a front
-abbrev pub with_front : {X : Type 0} → List X → Result (List X × List ℕ) CheckpointError → Result (List X × List ℕ) CheckpointError
-with_front front read = read >>= (λ xs. Ok (front ++ xs.0, xs.1))
+-- what was read, after a prefix
+abbrev pub with_prefix : {X : Type 0} → List X → Result (List X × List ℕ) CheckpointError → Result (List X × List ℕ) CheckpointError
+with_prefix prefix read = read >>= (λ xs. Ok (prefix ++ xs.0, xs.1))
 
-with_one : {X : Type 0} (front : List X) (x : X) (read : Result (List X × List ℕ) CheckpointError) → with_front front (read >>= (λ xs. Ok (x ∷ xs.0, xs.1))) ≡ with_front (front ++ x ∷ []) read
-with_one front x (Ok xs) = rw append_assoc
-with_one front x (Err e) = refl
+with_one : {X : Type 0} (prefix : List X) (x : X) (read : Result (List X × List ℕ) CheckpointError) → with_prefix prefix (read >>= (λ xs. Ok (x ∷ xs.0, xs.1))) ≡ with_prefix (prefix ++ x ∷ []) read
+with_one prefix x (Ok xs) = rw append_assoc
+with_one prefix x (Err e) = refl
 
 module _ {X : Type 0} (more : List ℕ → Bool) (item : Reader X) where
-  many_next : (n : ℕ) (text : List ℕ) (front : List X) (x : X) (rest : List ℕ) → more text ≡ true → item text ≡ Ok (x, rest)
-      → with_front front (many more item (suc n) text) ≡ with_front (front ++ x ∷ []) (many more item n rest)
+  many_next : (n : ℕ) (text : List ℕ) (prefix : List X) (x : X) (rest : List ℕ) → more text ≡ true → item text ≡ Ok (x, rest)
+      → with_prefix prefix (many more item (suc n) text) ≡ with_prefix (prefix ++ x ∷ []) (many more item n rest)
   unfolding many
-  many_next n text front x rest m read = rw (m, read) (with_one front x (many more item n rest))
+  many_next n text prefix x rest m read = rw (m, read) (with_one prefix x (many more item n rest))
 
-  many_failed : (n : ℕ) (text : List ℕ) (front : List X) (e : CheckpointError) → more text ≡ true → item text ≡ Err e → with_front front (many more item (suc n) text) ≡ Err e
+  many_failed : (n : ℕ) (text : List ℕ) (prefix : List X) (e : CheckpointError) → more text ≡ true → item text ≡ Err e → with_prefix prefix (many more item (suc n) text) ≡ Err e
   unfolding many
-  many_failed n text front e m read = rw (m, read) refl
+  many_failed n text prefix e m read = rw (m, read) refl
 
-  many_done : (n : ℕ) (text : List ℕ) (front : List X) → more text ≡ false → with_front front (many more item n text) ≡ Ok (front, text)
+  many_done : (n : ℕ) (text : List ℕ) (prefix : List X) → more text ≡ false → with_prefix prefix (many more item n text) ≡ Ok (prefix, text)
   unfolding many
-  many_done zero text front m = rw (m, append-nil) refl
-  many_done (suc n) text front m = rw (m, append-nil) refl
+  many_done zero text prefix m = rw (m, append-nil) refl
+  many_done (suc n) text prefix m = rw (m, append-nil) refl
 
   -- xs were read of a text, and the rest is still to be read
   pub record Continues (text : List ℕ) (xs : List X) (rest : List ℕ) : Type 0 where
-    pub goes : (n : ℕ) → with_front xs (many more item n rest) ≡ many more item (length xs + n) text
+    pub goes : (n : ℕ) → with_prefix xs (many more item n rest) ≡ many more item (length xs + n) text
     pub room : length xs + length rest ≤ length text
 
-  with_none : (read : Result (List X × List ℕ) CheckpointError) → with_front [] read ≡ read
+  with_none : (read : Result (List X × List ℕ) CheckpointError) → with_prefix [] read ≡ read
   with_none (Ok xs) = refl
   with_none (Err e) = refl
 

@@ -36,7 +36,8 @@ fn problem(alloc: Global, source: &[u8]) -> Result<Problem, CheckpointError>
 /// The state that a checkpoint writes.
 #[tactic(auto, unfolding(crate::specs::Readers::state_of))]
 fn state(alloc: Global, body: Body) -> Result<State, CheckpointError>
-    ensures { Gives (λ state. state) result (state_of (contents_of body.entry)) }
+    ensures value { Gives (λ state. state) result (state_of (contents_of body.entry)) }
+    ensures is_state { IfOk result IsState }
 {
     let problem = problem(alloc, body.source)?;
     let count = problem.shape.count();
@@ -67,7 +68,8 @@ fn state(alloc: Global, body: Body) -> Result<State, CheckpointError>
 
 #[tactic(auto, unfolding(crate::specs::Readers::short_reading))]
 fn read_short(alloc: Global, text: &[u8]) -> Result<State, CheckpointError>
-    ensures { Gives (λ state. state) result (short_reading text.now) }
+    ensures value { Gives (λ state. state) result (short_reading text.now) }
+    ensures is_state { IfOk result IsState }
 {
     let body = written(alloc, text)?;
     state(alloc, body)
@@ -75,7 +77,8 @@ fn read_short(alloc: Global, text: &[u8]) -> Result<State, CheckpointError>
 
 #[tactic(auto, unfolding(crate::specs::Readers::checkpoint_reading))]
 fn read_any_length(alloc: Global, text: &[u8]) -> Result<State, CheckpointError>
-    ensures { Gives (λ state. state) result (checkpoint_reading text.now) }
+    ensures value { Gives (λ state. state) result (checkpoint_reading text.now) }
+    ensures is_state { IfOk result IsState }
 {
     if text.len() > LONGEST {
         return Err(CheckpointError::TooLong);
@@ -90,6 +93,7 @@ fn read_any_length(alloc: Global, text: &[u8]) -> Result<State, CheckpointError>
 /// [`CheckpointError::NoMemory`] and says nothing of the text.
 pub fn read(alloc: Global, text: &[u8]) -> Result<State, CheckpointError>
     // What is read is a state with this text, and what is refused is refused for its first cause.
+    ensures is_state { IfOk result IsState }
     ensures state { IfOk result (λ state. IsTextOf state text.now) }
     ensures refusal { IfErr result (λ error. error ≢ CheckpointError.NoMemory → IsRefusal text.now error) }
     // A text of a state is read as that state, and a text with a refusal is refused so, unless memory runs out.

@@ -17,21 +17,21 @@ fn append_bytes(line: &mut Vec<u8>, bytes: &[u8]) -> Result<(), NoMemory>
     Ok(())
 }
 
-// A front and a number.
+// A prefix and a number.
 #[tactic(auto, using(std::proofs::Common::append_assoc))]
-fn append_one(line: &mut Vec<u8>, front: &[u8], number: u64) -> Result<(), NoMemory>
-    ensures { OnOk result (line.new.items ≡ line.old.items ++ (front.now ++ decimal number)) }
+fn append_one(line: &mut Vec<u8>, prefix: &[u8], number: u64) -> Result<(), NoMemory>
+    ensures { OnOk result (line.new.items ≡ line.old.items ++ (prefix.now ++ decimal number)) }
 {
-    line.extend_from_slice(front)?;
+    line.extend_from_slice(prefix)?;
     append_decimal(line, number)
 }
 
-// A front, a number, a space and a number.
+// A prefix, a number, a space and a number.
 #[tactic(auto, using(std::proofs::Common::append_assoc))]
-fn append_two(line: &mut Vec<u8>, front: &[u8], first: u64, second: u64) -> Result<(), NoMemory>
-    ensures { OnOk result (line.new.items ≡ line.old.items ++ (front.now ++ decimal first ++ codes " " ++ decimal second)) }
+fn append_two(line: &mut Vec<u8>, prefix: &[u8], first: u64, second: u64) -> Result<(), NoMemory>
+    ensures { OnOk result (line.new.items ≡ line.old.items ++ (prefix.now ++ decimal first ++ codes " " ++ decimal second)) }
 {
-    append_one(line, front, first)?;
+    append_one(line, prefix, first)?;
     line.extend_from_slice(b" ")?;
     append_decimal(line, second)
 }

@@ -1,10 +1,10 @@
 //! States, which keep in their type that they are one.
 
-ghost use Rattle.std.specs.Prelude.{◌≡◌, ◌≤◌};
+ghost use Rattle.std.specs.Prelude.{◌≡◌, ◌≤◌, IfOk};
 ghost use Rattle.problem.specs.Problems as problems;
 ghost use Rattle.problem.specs.Sums.{count_of};
 ghost use Rattle.problem_toml.specs.Steps.{Gives};
-ghost use Rattle.checkpoint.specs.States.{AreResidues, IsState, fresh_of};
+ghost use Rattle.checkpoint.specs.States.{AreResidues, IsState, IsTrueState, fresh_of};
 
 use crate::residues::zeros;
 use problem::Problem;
@@ -53,7 +53,8 @@ impl State {
     /// number of trees, and residues, integral by integral and within one integral modulus by modulus. It takes no memory.
     pub fn new(source: Bytes, problem: Problem, next: u64, residues: Residues) -> State
         requires { IsState (record { source = source; problem = problems.view problem; next = next; residues = residues }) }
-        ensures { result ≡ record { source = source; problem = problems.view problem; next = next; residues = residues } }
+        ensures value { result ≡ record { source = source; problem = problems.view problem; next = next; residues = residues } }
+        ensures is_state { IsState result }
     {
         State {
             source,
@@ -72,7 +73,8 @@ impl State {
 
     /// The problem.
     pub fn problem(&self) -> &Problem
-        ensures { problems.view result.now ≡ self.now.problem }
+        ensures value { problems.view result.now ≡ self.now.problem }
+        ensures is_state { IsState self.now }
     {
         &self.problem
     }
@@ -98,19 +100,22 @@ impl State {
     pub fn with_progress(self, next: u64, residues: Residues) -> State
         requires next { next ≤ count_of self.problem }
         requires residues { AreResidues self.problem residues }
-        ensures { result ≡ record self { next = next; residues = residues } }
+        ensures value { result ≡ record self { next = next; residues = residues } }
+        ensures is_state { IsState result }
     {
         State::new(self.source, self.problem, next, residues)
     }
 }
 
-/// The state of a problem text before any tree is summed: the next number is 0, and so is each residue.
+/// The state of a problem text before any tree is summed: the next number is 0, and so is each residue. It is true.
 ///
 /// # Errors
 /// Those of [`problem_toml::read`].
 #[tactic(auto, unfolding(crate::specs::States::fresh_of))]
 pub fn fresh(alloc: Global, source: &[u8]) -> Result<State, ProblemError>
-    ensures { Gives (λ state. state) result (fresh_of source.now) }
+    ensures value { Gives (λ state. state) result (fresh_of source.now) }
+    ensures is_state { IfOk result IsState }
+    ensures is_true { IfOk result IsTrueState }
 {
     let problem = problem_toml::read(alloc, source)?;
     let residues = zeros(alloc, problem.integrals.len() * problem.moduli.len())?;

@@ -9,8 +9,8 @@ use Rattle.checkpoint.proofs.Fits.{numbers_count}
 use Rattle.checkpoint.proofs.StateLaws.{at_lines, at_counts, at_residues, at_state}
 use Rattle.checkpoint.proofs.reading.state.Goals as goal
 
-pub returns-then-len-wanted : goal.returns-then-len-wanted
-returns-then-len-wanted c =
+pub returns-then-len-wanted-clause-value : goal.returns-then-len-wanted-clause-value
+returns-then-len-wanted-clause-value c =
     let p = problems.view c.in_ok-problem.problem in
     let n = numbers_count c.args.body.rows.items in
     let next : c.args.body.next ≤ count_of p = omega arith in
@@ -18,8 +18,8 @@ returns-then-len-wanted c =
     let k : c.len-then-len-wanted.result ≡ length (numbers_of c.args.body.rows.items) = omega (arith, n) in
     λ _. rw (c.shown_count.ensures, k, c.len-wanted.ensures) (at_lines (contents_of c.args.body) p c.in_ok-problem.ensures next other)
 
-pub returns-in_err-check_counts : goal.returns-in_err-check_counts
-returns-in_err-check_counts c =
+pub returns-in_err-check_counts-clause-value : goal.returns-in_err-check_counts-clause-value
+returns-in_err-check_counts-clause-value c =
     let r = err_from_is_err_and c.from_residual-in_err-check_counts.result c.from_residual-in_err-check_counts.ensures.1 in
     let p = problems.view c.in_ok-problem.problem in
     let n = numbers_count c.args.body.rows.items in
@@ -28,8 +28,8 @@ returns-in_err-check_counts c =
     let fault = rw (c.as_slice.ensures.value, c.len-2.ensures) at c.in_err-check_counts.ensures.value in
     rw (r.1, r.2) (λ _. at_counts (contents_of c.args.body) p c.in_ok-problem.ensures _ next lines fault)
 
-pub returns-in_err-check_residues : goal.returns-in_err-check_residues
-returns-in_err-check_residues c =
+pub returns-in_err-check_residues-clause-value : goal.returns-in_err-check_residues-clause-value
+returns-in_err-check_residues-clause-value c =
     let r = err_from_is_err_and c.from_residual-in_err-check_residues.result c.from_residual-in_err-check_residues.ensures.1 in
     let p = problems.view c.in_ok-problem.problem in
     let n = numbers_count c.args.body.rows.items in
@@ -40,8 +40,8 @@ returns-in_err-check_residues c =
     let fault = rw (c.as_slice-3.ensures.value, joined) at c.in_err-check_residues.ensures.value in
     rw (r.1, r.2) (λ _. at_residues (contents_of c.args.body) p c.in_ok-problem.ensures _ next lines counts fault)
 
-pub returns : goal.returns
-returns c =
+pub returns-clause-value : goal.returns-clause-value
+returns-clause-value c =
     let p = problems.view c.in_ok-problem.problem in
     let n = numbers_count c.args.body.rows.items in
     let next : c.args.body.next ≤ count_of p = omega arith in
@@ -49,4 +49,4 @@ returns c =
     let counts = rw (c.as_slice.ensures.value, c.len-2.ensures) at c.in_ok-check_counts.ensures.value in
     let joined = rw c.as_slice-2.ensures.value at c.in_ok-residues.ensures in
     let fit = rw (c.as_slice-3.ensures.value, joined) at c.in_ok-check_residues.ensures.value in
-    rw (c.new.ensures, c.of.ensures, c.of-2.ensures, c.in_ok-source.ensures.items, joined) (at_state (contents_of c.args.body) p c.in_ok-problem.ensures next lines counts fit)
+    rw (c.new.ensures.value, c.of.ensures, c.of-2.ensures, c.in_ok-source.ensures.items, joined) (at_state (contents_of c.args.body) p c.in_ok-problem.ensures next lines counts fit)
