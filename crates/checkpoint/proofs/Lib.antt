@@ -10,3 +10,4 @@ pub mod TextLaws
 pub mod WrittenStates
 pub mod ReadingLaws
 pub mod FirstStates
+pub mod Worked

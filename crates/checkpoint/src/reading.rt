@@ -98,7 +98,8 @@ pub fn read(alloc: Global, text: &[u8]) -> Result<State, CheckpointError>
     ensures refusal { IfErr result (λ error. error ≢ CheckpointError.NoMemory → IsRefusal text.now error) }
     // A text of a state is read as that state, and a text with a refusal is refused so, unless memory runs out.
     ensures only_state { (s : StateView) → IsState s → IsTextOf s text.now → Gives (λ state. state) result (Ok s) }
-    ensures only_refusal { (error : CheckpointError) → IsRefusal text.now error → Gives (λ state. state) result (Err error) }
+    ensures only_refusal { (error : CheckpointError) → IsRefusal text.now error →
+        Gives (λ state. state) result (Err error) }
 {
     read_any_length(alloc, text)
 }

@@ -109,7 +109,8 @@ pub(crate) fn append_rows(
     residues: &[u64],
 ) -> Result<(), NoMemory>
     requires { length residues.now ≡ count * moduli }
-    ensures { OnOk result (text.new.items ≡ text.old.items ++ flat_map residue_line (rows_of moduli count residues.now)) }
+    ensures { OnOk result (text.new.items
+        ≡ text.old.items ++ flat_map residue_line (rows_of moduli count residues.now)) }
 {
     let mut rest = residues;
     for _ in 0..count {

@@ -53,7 +53,8 @@ impl State {
     /// number of trees, and residues, integral by integral and within one integral modulus by modulus. It takes no memory.
     pub fn new(source: Bytes, problem: Problem, next: u64, residues: Residues) -> State
         requires { IsState (record { source = source; problem = problems.view problem; next = next; residues = residues }) }
-        ensures value { result ≡ record { source = source; problem = problems.view problem; next = next; residues = residues } }
+        ensures value { result
+            ≡ record { source = source; problem = problems.view problem; next = next; residues = residues } }
         ensures is_state { IsState result }
     {
         State {

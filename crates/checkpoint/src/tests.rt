@@ -1,9 +1,9 @@
 //! Checkpoints whose texts and answers come from outside.
 
+use crate::seal::append_seal;
 use crate::tests::cases::{FIRST_LINES, LENGTHS, NEXTS, RESIDUES, SOURCE, TEXTS, TWO_INTEGRALS};
 use crate::{CheckpointError, State, append_refusal, fresh, read, refusal_line, write};
 use residue::Residues;
-use sha2::{Digest, Sha256};
 use std::alloc::Global;
 use std::test::Fail;
 
@@ -27,11 +27,8 @@ fn text(alloc: Global, version: u8, rest: &str, digest: &str) -> Result<String, 
 
 // The text of a body with its own digest.
 fn sealed(alloc: Global, body: &[u8]) -> Result<Vec<u8>, Fail> {
-    let digits = hex::encode(alloc, Sha256::digest(body))?;
     let mut text = Vec::from_slice(alloc, body)?;
-    text.extend_from_slice(b"sha256 ")?;
-    text.extend_from_slice(digits.as_bytes())?;
-    text.extend_from_slice(b"\n")?;
+    append_seal(alloc, &mut text).ok().ok_or("no memory")?;
     Ok(text)
 }
 
