@@ -1,0 +1,13 @@
+pub mod Loops
+pub mod Fits
+pub mod WordLaws
+pub mod Decimals
+pub mod Seals
+pub mod RowLaws
+pub mod StateLaws
+pub mod BodyLaws
+pub mod TextLaws
+pub mod WrittenStates
+pub mod ReadingLaws
+pub mod FirstStates
+pub mod Worked
