@@ -1,6 +1,7 @@
 -- The first state of a problem is true: no tree is summed, and each residue is 0.
 use Rattle.std.proofs.Common.{◌≡◌, ℕ, zero, suc, ◌*◌, ◌%◌, ◌<◌, ◌≤◌, List, length, get_or, replicate, pos, refl, sym, ap, ◌∙◌, subst, arith, mod-lt}
 use Rattle.std.specs.Prelude.{slice_index}
+use Rattle.std.proofs.lemmas.List.{length-replicate}
 use Rattle.std.proofs.Math.Nat.{mod-eq_of_lt, one-dvd, dvd_refl}
 use Rattle.arithmetic.specs.Numbers.{gcd}
 use Rattle.arithmetic.specs.Fractions.{fraction, IsResidue}
@@ -31,8 +32,12 @@ residue_of_zero m h =
     IsResidue-from m (fraction (pos 0) (pos 1)) 0 0 1 (omega arith) (reduce-pos m 0 ∙ mod-eq_of_lt (omega arith)) (reduce-pos m 1 ∙ mod-eq_of_lt h)
     (omega arith) (one_is_unit m) (mod-eq_of_lt (omega arith))
 
+at_least : (n k : ℕ) → k ≡ n → n ≤ k
+at_least n k e = omega arith
+
 pub first_is_true : (source : List ℕ) (p : ProblemView) → KeepsRules p → IsTrueState (first_state source p)
 first_is_true source p rules = record {
+  as_many = at_least (places_of p) (length (replicate (places_of p) 0)) (length-replicate (places_of p) 0);
   each = λ place h.
       let m = modulus_at p.moduli place in
       let above : 1 < m = modulus_above p rules place in
