@@ -1,6 +1,6 @@
 //! Sums over a range of numbers.
 
-ghost use Rattle.std.specs.Prelude.{◌≡◌, ◌≢◌, ℕ, ◌<◌, ◌≤◌, slice_index};
+ghost use Rattle.std.specs.Prelude.{◌≡◌, ◌≢◌, ℕ, ◌-◌, ◌^◌, ◌<◌, ◌≤◌, slice_index};
 ghost use Rattle.localisation.specs.Agreement.{modulus_at, IsLeastBad, NoneBad};
 ghost use Rattle.problem.specs.Problems.{view as problem_view};
 ghost use Rattle.problem.specs.Sums.{count_of, is_bad_of, places_of, ArePartialSums, AreKontsevichSums, IsEmptyFrom};
@@ -8,7 +8,7 @@ ghost use Rattle.problem.specs.Sums.{count_of, is_bad_of, places_of, ArePartialS
 use crate::block::add_block;
 use problem::Problem;
 
-/// The least bad number of a range that has none.
+/// Stands for the least bad number of a range that has none: 2^64 - 1, which no tree has as its number.
 pub const NONE_BAD: u64 = u64::MAX;
 
 /// A range is summed in blocks of at most so many numbers. There is one division for each block, integral and modulus: 64
@@ -40,6 +40,7 @@ pub fn sum_range(problem: &Problem, first: u64, end: u64) -> RangeTotal
     ensures below { result.least ≡ NONE_BAD → (place : ℕ) → place < places_of (problem_view problem.now)
         → slice_index result.sums place < modulus_at problem.now.moduli place }
     ensures rest { result.least ≡ NONE_BAD → IsEmptyFrom (places_of (problem_view problem.now)) result.sums }
+    ensures none_bad { NONE_BAD ≡ 2 ^ 64 - 1 }
 {
     let mut sums = [0; 64];
     let mut start = first;
