@@ -122,6 +122,40 @@ impl Gate for Meet {
     }
 }
 
+// Counts all passes, and adds up the turns and the numbers of the workers.
+#[derive(Drop)]
+struct Count {
+    passes: AtomicU64,
+    turns: AtomicU64,
+    workers: AtomicU64,
+}
+
+impl Count {
+    fn new() -> Count {
+        Count {
+            passes: AtomicU64::new(0),
+            turns: AtomicU64::new(0),
+            workers: AtomicU64::new(0),
+        }
+    }
+
+    fn counts(&self) -> (u64, u64, u64) {
+        (
+            self.passes.load(Ordering::SeqCst),
+            self.turns.load(Ordering::SeqCst),
+            self.workers.load(Ordering::SeqCst),
+        )
+    }
+}
+
+impl Gate for Count {
+    fn pass(&self, worker: u32, turn: u64) {
+        self.passes.fetch_add(1, Ordering::SeqCst);
+        self.turns.fetch_add(turn, Ordering::SeqCst);
+        self.workers.fetch_add(worker as u64, Ordering::SeqCst);
+    }
+}
+
 #[derive(Drop)]
 struct Played {
     round: Round,
@@ -218,6 +252,19 @@ fn a_worker_steals_what_another_leaves(rt: HostRuntime) -> Result<(), Fail> {
     );
     assert_eq!(rt; worked(played.parts.as_slice()), (88, 3828));
     assert!(rt; shares_agree(&played));
+    Ok(())
+}
+
+// A lone worker takes 5 blocks, and then none: six passes, with the turns 0 to 5. Of 64 workers that
+// share one block, one passes with the turns 0 and 1, and each other once, with the turn 0.
+#[test]
+fn each_take_has_one_pass(rt: HostRuntime) -> Result<(), Fail> {
+    let alone = Count::new();
+    play(&rt, rt.alloc(), &[NOTHING_BAD; 5], 1, &alone)?;
+    assert_eq!(rt; alone.counts(), (6, 15, 0));
+    let crowd = Count::new();
+    play(&rt, rt.alloc(), &[NOTHING_BAD], 64, &crowd)?;
+    assert_eq!(rt; crowd.counts(), (65, 1, 2016 + 63));
     Ok(())
 }
 
