@@ -1,7 +1,7 @@
 -- Worked numbers: places, and words of keys.
-use Rattle.std.proofs.Common.{◌≡◌, inl, inr, [], ◌∷◌, refl, pos, lit<, arith}
+use Rattle.std.proofs.Common.{◌≡◌, ℕ, inl, inr, [], ◌∷◌, refl, pos, lit<, arith}
 use Rattle.std.proofs.lemmas.Nat.Gcd.{dvd_of_mod-eq-zero}
-use Rattle.arithmetic.specs.Numbers.{gcd}
+use Rattle.arithmetic.proofs.Euclid.{last_remainder, gcd_by_euclid}
 use Rattle.residue.specs.declared.class.Class.TheVariants.{R1}
 use Rattle.localisation.specs.Weights.{tangent_product}
 use Rattle.localisation.specs.EdgeFraction.{edge_top, edge_bottom, colour_product, other_colours_product}
@@ -46,36 +46,39 @@ unfolding line place_of
 place_of_last = refl
 
 word_of_edge : IsWordOf 101 (fraction_of line (Edge 0 1 2)) 39
-unfolding line edge_top edge_bottom colour_product other_colours_product gcd
-word_of_edge = inl (38, record { below = lit< tt; unit = refl; divides = dvd_of_mod-eq-zero 101 refl }, refl)
+unfolding line edge_top edge_bottom colour_product other_colours_product last_remainder
+word_of_edge = inl (38, record { below = lit< tt; unit = gcd_by_euclid _ _ 1 refl; divides = dvd_of_mod-eq-zero 101 refl }, refl)
 
 word_of_pair : IsWordOf 101 (fraction_of line (Pair 0 1 1 1 1)) 52
-unfolding line plain_vertex tangent_product gcd
-word_of_pair = inl (51, record { below = lit< tt; unit = refl; divides = dvd_of_mod-eq-zero 101 refl }, refl)
+unfolding line plain_vertex tangent_product last_remainder
+word_of_pair = inl (51, record { below = lit< tt; unit = gcd_by_euclid _ _ 1 refl; divides = dvd_of_mod-eq-zero 101 refl }, refl)
 
 word_of_class_edge : IsWordOf 101 (fraction_of line (ClassEdge 0 0 1 2)) 100
-unfolding line negated_inner_product gcd
-word_of_class_edge = inl (99, record { below = lit< tt; unit = refl; divides = dvd_of_mod-eq-zero 101 refl }, refl)
+unfolding line negated_inner_product last_remainder
+word_of_class_edge = inl (99, record { below = lit< tt; unit = gcd_by_euclid _ _ 1 refl; divides = dvd_of_mod-eq-zero 101 refl }, refl)
 
 -- the tangent at 0 is 1 - 3, and a tip there is (3 - 1) over its degree
 word_of_tangent : IsWordOf 101 (fraction_of line (Tangent 0)) 100
-unfolding line tangent_product gcd
-word_of_tangent = inl (99, record { below = lit< tt; unit = refl; divides = dvd_of_mod-eq-zero 101 refl }, refl)
+unfolding line tangent_product last_remainder
+word_of_tangent = inl (99, record { below = lit< tt; unit = gcd_by_euclid _ _ 1 refl; divides = dvd_of_mod-eq-zero 101 refl }, refl)
 
 word_of_tip : IsWordOf 101 (fraction_of line (Tip 0 1 2)) 2
-unfolding line gcd
-word_of_tip = inl (1, record { below = lit< tt; unit = refl; divides = dvd_of_mod-eq-zero 101 refl }, refl)
+unfolding line last_remainder
+word_of_tip = inl (1, record { below = lit< tt; unit = gcd_by_euclid _ _ 1 refl; divides = dvd_of_mod-eq-zero 101 refl }, refl)
 
 -- ---- the weights 1 and 4: their difference is no unit modulo 9
 
 thirds : Parameters
 thirds = parameters (pos 1 ∷ pos 4 ∷ []) 3 (9 ∷ []) []
 
+not_one : (g : ℕ) → g ≡ 3 → g ≡ 1 → ⊥
+not_one g three one = omega arith
+
 word_of_flag : IsWordOf 9 (fraction_of thirds (Flag 0 1 1)) 18446744073709551615
-unfolding thirds gcd
-word_of_flag = inr ((λ h. omega arith), refl)
+unfolding thirds last_remainder
+word_of_flag = inr ((λ h. not_one _ (gcd_by_euclid _ _ 3 refl) h), refl)
 
 -- the degree 3 is no unit either
 word_of_third_tip : IsWordOf 9 (fraction_of thirds (Tip 0 1 3)) 18446744073709551615
-unfolding thirds gcd
-word_of_third_tip = inr ((λ h. omega arith), refl)
+unfolding thirds last_remainder
+word_of_third_tip = inr ((λ h. not_one _ (gcd_by_euclid _ _ 3 refl) h), refl)
