@@ -11,11 +11,12 @@ use Rattle.atomic_table.specs.Table.{Me, step, keeps, opening, Allows, Splits, J
 use Rattle.atomic_table.proofs.Lists.{at_set, exchanged}
 use Rattle.arithmetic.specs.Numbers.{reduce}
 use Rattle.factor_table.specs.declared.parameters.Parameters.{Parameters}
+use Rattle.factor_table.specs.declared.table.Move.TheVariants.{Fill}
 use Rattle.factor_table.specs.declared.table.View.{View}
 use Rattle.factor_table.specs.Places.{first_factor, words_of}
 use Rattle.factor_table.specs.Factors.{sizes_of}
-use Rattle.factor_table.specs.Rule.{AreFactors, Holds, IsFactorAt, Looks, Fills, with_place, looked, same, joined, spent, opening_view, first_words}
-use Rattle.factor_table.proofs.Views.{AllFit, all_fit, after_set, after_snoc, only_view, fits_place, fits_looked, fits_joined, fits_spent, fits_opening, fits_still}
+use Rattle.factor_table.specs.Rule.{AreFactors, Holds, IsFactorAt, Looks, Fills, with_place, looked, divided, new_view, joined, spent, opening_view, first_words}
+use Rattle.factor_table.proofs.Views.{AllFit, all_fit, after_set, after_snoc, only_view, fits_moves, fits_place, fits_looked, fits_joined, fits_spent, fits_opening, fits_still}
 
 -- the rule with other views
 with_views : (p : Parameters) (words : List ℕ) (views after : List View) → AreFactors p words views → AllFit p words after → AreFactors p words after
@@ -53,15 +54,15 @@ looks S p slots id place me told from s h homes at in_range =
 -- the word of its place is written in place of 0
 writes : (p : Parameters) (words : List ℕ) (views : List View) (id place word : ℕ) (v : View) → AreFactors p words views → get_elem? views id ≡ some v
     → first_factor (sizes_of p) ≤ place → place < words_of (sizes_of p) → word ≢ 0 → IsFactorAt p place word
-    → AreFactors p (set words place word) (set views id (with_place v place))
+    → AreFactors p (set words place word) (set views id (with_place v place (Fill place)))
 writes p words views id place word v h at from below some_there is =
-    let ws : List ℕ = set words place word in let w : View = with_place v place in
+    let ws : List ℕ = set words place word in let w : View = with_place v place (Fill place) in
     let within : place < length words = subst (λ n. place < n) (sym h.count) below in
     let here : get_or ws place 0 ≡ word = get_or-set_same words place word 0 within in
     let stays : (x : ℕ) → get_or words x 0 ≢ 0 → get_or ws x 0 ≢ 0 = λ x filled.
     dite (ℕ_discrete x place) (λ e. subst (λ y. get_or ws y 0 ≢ 0) (sym e) (λ z. some_there (sym here ∙ z))) (λ n z. filled (sym (get_or-set_other words place x word 0 n) ∙ z)) in
     let fit : AllFit p ws views = λ j u e. fits_still p words ws u stays (all_fit p words views h j u e) in
-    let after = after_set p ws views id w fit (fits_place p ws v place (fit id v at) (from, λ z. some_there (sym here ∙ z))) in
+    let after = after_set p ws views id w fit (fits_place p ws v place (Fill place) (fit id v at) (from, λ z. some_there (sym here ∙ z))) in
     let Is : ℕ → ℕ → Type 0 = λ x n. (n ≡ 0) ⊎ IsFactorAt p x n in record {
       count = length-set words place word ∙ h.count;
       first = take-set-le (first_factor (sizes_of p)) words place word from ∙ h.first;
@@ -73,15 +74,15 @@ writes p words views id place word v h at from below some_there is =
 -- a word that another has written stays
 stays : (p : Parameters) (words : List ℕ) (views : List View) (id place : ℕ) (v : View) → AreFactors p words views → get_elem? views id ≡ some v
     → first_factor (sizes_of p) ≤ place → get_or words place 0 ≢ 0
-    → AreFactors p (set words place (get_or words place 0)) (set views id (with_place v place))
+    → AreFactors p (set words place (get_or words place 0)) (set views id (with_place v place (Fill place)))
 stays p words views id place v h at from some_there =
-    let w : View = with_place v place in let fit = all_fit p words views h in
+    let w : View = with_place v place (Fill place) in let fit = all_fit p words views h in
     subst (λ ws. AreFactors p ws (set views id w)) (sym (set-get_or words place 0))
-    (with_views p words views (set views id w) h (after_set p words views id w fit (fits_place p words v place (fit id v at) (from, some_there))))
+    (with_views p words views (set views id w) h (after_set p words views id w fit (fits_place p words v place (Fill place) (fit id v at) (from, some_there))))
 
 pub fills : (S : Type 0) (p : Parameters) (slots id place word : ℕ) (me : Me S View) → first_factor (sizes_of p) ≤ place → place < words_of (sizes_of p) → word ≢ 0 → IsFactorAt p place word
     → Allows (Holds {S = S} p) slots id me place (λ n. either (eqb n 0) word n) (Fills (step slots place 0 word none) me)
-fills S p slots id place word me from below some_there is s h homes at in_range = let w : View = with_place me.0 place in (
+fills S p slots id place word me from below some_there is s h homes at in_range = let w : View = with_place me.0 place (Fill place) in (
   w,
   keeps,
   tt,
@@ -91,10 +92,11 @@ fills S p slots id place word me from below some_there is s h homes at in_range 
   refl,
 )
 
-pub splits : (S : Type 0) (p : Parameters) (id : ℕ) (v : View) → Splits (Holds {S = S} p) id v (same v) (same v)
+pub splits : (S : Type 0) (p : Parameters) (id : ℕ) (v : View) → Splits (Holds {S = S} p) id v (divided v) (new_view v)
 splits S p id v s h at =
-    let fit = all_fit p s.words s.views h in let mine = fit id v at in
-    with_views p s.words s.views (set s.views id v ++ v ∷ []) h (after_snoc p s.words (set s.views id v) v (after_set p s.words s.views id v fit mine) mine)
+    let fit = all_fit p s.words s.views h in let mine = fit id v at in let views : List View = set s.views id (divided v) in
+    with_views p s.words s.views (views ++ new_view v ∷ []) h
+    (after_snoc p s.words views (new_view v) (after_set p s.words s.views id (divided v) fit (fits_moves p s.words v (divided v).moves mine)) (fits_moves p s.words v [] mine))
 
 other_view : (views : List View) (id other : ℕ) (both w : View) → ¬ (other ≡ id) → get_elem? (set views id both) other ≡ some w → get_elem? views other ≡ some w
 other_view views id other both w differ e = ⊎_elim (λ (x : (other ≡ id) × (both ≡ w)). absurd (differ x.0)) (λ (x : (other ≢ id) × (get_elem? views other ≡ some w)). x.1) (at_set views id other both w e)

@@ -5,6 +5,8 @@ use mathlib.Core.Option.{some, some-injective, some-ne-none}
 use lib.ListN.{get_elem?}
 use Rattle.atomic_table.proofs.Lists.{at_set, at_snoc}
 use Rattle.factor_table.specs.declared.parameters.Parameters.{Parameters}
+use Rattle.factor_table.specs.declared.table.Move.{Move}
+use Rattle.factor_table.specs.declared.table.Move.TheVariants.{Load}
 use Rattle.factor_table.specs.declared.table.View.{View}
 use Rattle.factor_table.specs.Rule.{AreFactors, IsFilledAt, with_place, looked, joined, spent, opening_view}
 
@@ -30,16 +32,20 @@ pub only_view : (p : Parameters) (words : List ℕ) (w : View) → Fits p words 
 only_view p words w new zero u e = subst (Fits p words) (some-injective w u e) new
 only_view p words w new (suc j) u e = absurd (some-ne-none u (sym e))
 
+-- the rule says nothing of the steps that a view tells
+pub fits_moves : (p : Parameters) (words : List ℕ) (v : View) (moves : List Move) → Fits p words v → Fits p words (record v { moves = moves })
+fits_moves p words v moves f = record { told = f.told; known = f.known }
+
 -- one place more, which is filled
-pub fits_place : (p : Parameters) (words : List ℕ) (v : View) (place : ℕ) → Fits p words v → IsFilledAt p words place → Fits p words (with_place v place)
-fits_place p words v place f filled = record {
+pub fits_place : (p : Parameters) (words : List ℕ) (v : View) (place : ℕ) (m : Move) → Fits p words v → IsFilledAt p words place → Fits p words (with_place v place m)
+fits_place p words v place m f filled = record {
   told = f.told;
   known = λ x there. ⊎_elim (f.known x) (λ (is : place ≡ x). subst (IsFilledAt p words) is filled) (Contains-push_cases v.known place x there);
 }
 
 pub fits_looked : (p : Parameters) (words : List ℕ) (v : View) (place n : ℕ) → Fits p words v → (n ≢ 0 → IsFilledAt p words place) → Fits p words (looked v place n)
-fits_looked p words v place zero f filled = f
-fits_looked p words v place (suc n) f filled = fits_place p words v place f (filled (λ h. omega arith))
+fits_looked p words v place zero f filled = fits_moves p words v (v.moves ++ Load place 0 ∷ []) f
+fits_looked p words v place (suc n) f filled = fits_place p words v place (Load place (suc n)) f (filled (λ h. omega arith))
 
 pub fits_joined : (p : Parameters) (words : List ℕ) (v w : View) → Fits p words v → Fits p words w → Fits p words (joined v w)
 fits_joined p words v w f g = record { told = f.told; known = λ x there. ⊎_elim (f.known x) (g.known x) (Contains-append_cases v.known w.known x there) }

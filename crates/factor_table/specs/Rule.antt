@@ -6,6 +6,8 @@ use Rattle.atomic_table.specs.Table.{State, Me, Step}
 use Rattle.arithmetic.specs.Numbers.{reduce}
 use Rattle.factor_table.specs.declared.key.Key.{Key}
 use Rattle.factor_table.specs.declared.parameters.Parameters.{Parameters}
+use Rattle.factor_table.specs.declared.table.Move.{Move}
+use Rattle.factor_table.specs.declared.table.Move.TheVariants.{Load, Fill, Split, Join}
 use Rattle.factor_table.specs.declared.table.View.{View}
 use Rattle.factor_table.specs.Places.{first_factor, words_of, place_of}
 use Rattle.factor_table.specs.Factors.{parameters, sizes_of, modulus_at, fraction_of, IsKeyOf, IsWordOf}
@@ -41,22 +43,22 @@ pub record AreFactors (p : Parameters) (words : List ℕ) (views : List View) : 
 abbrev pub Holds : {S : Type 0} → Parameters → State S View → Type 0
 Holds p s = AreFactors p s.words s.views
 
--- a view that knows these places
-abbrev pub view : Parameters → List ℕ → View
-view p known = record { parameters = p; known = known; joined_away = false }
-
 -- the first seat knows no place
 abbrev pub opening_view : Parameters → View
-opening_view p = view p []
+opening_view p = record { parameters = p; known = []; moves = []; joined_away = false }
 
--- the place is known too
-abbrev pub with_place : View → ℕ → View
-with_place v place = record v { known = v.known ++ place ∷ [] }
+-- the view after one more step
+abbrev pub with_move : View → Move → View
+with_move v m = record v { moves = v.moves ++ m ∷ [] }
+
+-- the view after one more step, by which a place became known
+abbrev pub with_place : View → ℕ → Move → View
+with_place v place m = record v { known = v.known ++ place ∷ []; moves = v.moves ++ m ∷ [] }
 
 -- the view after a load of this place that found this word
 abbrev pub looked : View → ℕ → ℕ → View
-looked v place zero = v
-looked v place (suc n) = with_place v place
+looked v place zero = with_move v (Load place 0)
+looked v place (suc n) = with_place v place (Load place (suc n))
 
 -- A load that finds a word other than 0 makes its place known, and the word is that of the key of its place.
 abbrev pub Looks : {S : Type 0} → Step S → Me S View → ℕ → Me S View → Type 0
@@ -66,15 +68,18 @@ Looks s me found after =
 
 -- A fill, which exchanges 0 for a word, makes its place known, also if another had filled it.
 abbrev pub Fills : {S : Type 0} → Step S → Me S View → ℕ → Me S View → Type 0
-Fills s me found after = after ≡ (with_place me.0 s.word, me.1)
+Fills s me found after = after ≡ (with_place me.0 s.word (Fill s.word), me.1)
 
--- a split leaves the seat as it was, and the new seat knows the same places
-abbrev pub same : View → View
-same v = v
+-- the view of a seat that was split, and that of the new seat, which knows the same places
+abbrev pub divided : View → View
+divided v = with_move v Split
+
+abbrev pub new_view : View → View
+new_view v = record v { moves = [] }
 
 -- a join adds the places that the second seat knows, and none of its view is left
 abbrev pub joined : View → View → View
-joined v w = record v { known = v.known ++ w.known }
+joined v w = record v { known = v.known ++ w.known; moves = v.moves ++ Join ∷ [] }
 
 abbrev pub spent : View
-spent = record { parameters = parameters [] 0 [] []; known = []; joined_away = true }
+spent = record { parameters = parameters [] 0 [] []; known = []; moves = []; joined_away = true }

@@ -1,9 +1,11 @@
 -- What a table and a seat mean to a caller.
-use Rattle.std.specs.Prelude.{◌≡◌, ℕ, List, Contains, Result}
+use Rattle.std.specs.Prelude.{◌≡◌, ◌≢◌, ◌⊎◌, ℕ, List, [], ◌∷◌, ◌++◌, Contains, Result}
 use Rattle.residue.specs.declared.errors.NoUnit.{NoUnit}
 use Rattle.residue.specs.Answers.{GivesResidue}
 use Rattle.factor_table.specs.declared.key.Key.{Key}
 use Rattle.factor_table.specs.declared.parameters.Parameters.{Parameters}
+use Rattle.factor_table.specs.declared.table.Move.{Move}
+use Rattle.factor_table.specs.declared.table.Move.TheVariants.{Load, Fill}
 use Rattle.factor_table.specs.declared.table.FactorTable.{FactorTable}
 use Rattle.factor_table.specs.declared.table.FactorSeat.{FactorSeat}
 use Rattle.factor_table.specs.Places.{place_of}
@@ -37,3 +39,14 @@ Knows s t key modulus = Contains (known_of s) (place_in t key modulus)
 abbrev pub IsFactorIn : FactorTable → Key → ℕ → Result ℕ NoUnit → Type 0
 IsFactorIn t key modulus answer =
     GivesResidue (modulus_at (parameters_of t) modulus) (fraction_of (parameters_of t) key) answer
+
+-- the steps that the seat made, in their order
+abbrev pub moves_of : FactorSeat → List Move
+moves_of s = s.seat.me.0.moves
+
+-- Between two moments the seat looked once at the word of a place: it loaded it once, and only if it found 0 it made one
+-- more step, which exchanged that 0 for a word.
+abbrev pub LooksOnce : ℕ → FactorSeat → FactorSeat → Type 0
+LooksOnce place before after =
+    ((found : ℕ) × (found ≢ 0) × (moves_of after ≡ moves_of before ++ Load place found ∷ []))
+    ⊎ (moves_of after ≡ moves_of before ++ Load place 0 ∷ Fill place ∷ [])

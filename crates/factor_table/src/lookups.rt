@@ -1,7 +1,7 @@
 //! How a worker asks the table for a factor.
 //!
-//! Each call loads one word. If it finds 0, the factor is computed and the word is filled by one `compare_exchange`. If
-//! another worker has filled it meanwhile, the word is the same. No call takes memory.
+//! Each call loads one word. Exactly if it finds 0, the factor is computed and the word is filled by one
+//! `compare_exchange`. If another worker has filled it meanwhile, the word is the same. No call takes memory.
 
 ghost use Rattle.std.specs.Prelude.{◌≡◌, ℕ, ◌+◌, ◌<◌, ◌^◌, [], ◌∷◌, ◌++◌, length, pos, IfOk};
 ghost use Rattle.arithmetic.specs.Fractions.{Fraction, fraction, IsResidue};
@@ -12,8 +12,9 @@ ghost use Rattle.localisation.specs.VertexFraction.{plain_vertex};
 ghost use Rattle.localisation.specs.ClassValue.{class_edge, class_vertex};
 ghost use Rattle.vertex_factor.specs.Ends.{end, flag_fraction};
 ghost use Rattle.factor_table.specs.declared.key.Key.{Key};
+ghost use Rattle.factor_table.specs.declared.table.Move.{Move};
 ghost use Rattle.factor_table.specs.Factors.{modulus_at, class_at, IsKeyOf, tip_fraction, IsWordOf, word_of};
-ghost use Rattle.factor_table.specs.Seats.{parameters_of, IsSeatOf, IsFactorIn, known_of, place_in};
+ghost use Rattle.factor_table.specs.Seats.{parameters_of, IsSeatOf, IsFactorIn, known_of, moves_of, place_in, LooksOnce};
 
 use crate::key::Key;
 use crate::table::{FactorSeat, FactorTable, Fill, Look};
@@ -31,6 +32,7 @@ impl FactorTable {
         ensures value { IsFactorIn self.now key.now modulus result }
         ensures seat { IsSeatOf seat.new self.now }
         ensures known { known_of seat.new ≡ known_of seat.old ++ place_in self.now key.now modulus ∷ [] }
+        ensures moves { LooksOnce (place_in self.now key.now modulus) seat.old seat.new }
     {
         let place = self.layout.place(*key, modulus);
         self.at_place(seat, place, *key, modulus)
@@ -57,6 +59,7 @@ impl FactorTable {
         ensures seat { IsSeatOf seat.new self.now }
         ensures known { known_of seat.new
             ≡ known_of seat.old ++ place_in self.now (Key.Edge i j a) modulus ∷ [] }
+        ensures moves { LooksOnce (place_in self.now (Key.Edge i j a) modulus) seat.old seat.new }
     {
         let place = self.layout.edge(i, j, a, modulus);
         self.at_place(seat, place, Key::Edge { i, j, a }, modulus)
@@ -84,6 +87,7 @@ impl FactorTable {
         ensures seat { IsSeatOf seat.new self.now }
         ensures known { known_of seat.new
             ≡ known_of seat.old ++ place_in self.now (Key.Flag c u a) modulus ∷ [] }
+        ensures moves { LooksOnce (place_in self.now (Key.Flag c u a) modulus) seat.old seat.new }
     {
         let place = self.layout.flag(c, u, a, modulus);
         self.at_place(seat, place, Key::Flag { c, u, a }, modulus)
@@ -111,6 +115,7 @@ impl FactorTable {
         ensures seat { IsSeatOf seat.new self.now }
         ensures known { known_of seat.new
             ≡ known_of seat.old ++ place_in self.now (Key.Tip c u a) modulus ∷ [] }
+        ensures moves { LooksOnce (place_in self.now (Key.Tip c u a) modulus) seat.old seat.new }
     {
         let place = self.layout.tip(c, u, a, modulus);
         self.at_place(seat, place, Key::Tip { c, u, a }, modulus)
@@ -140,6 +145,7 @@ impl FactorTable {
         ensures seat { IsSeatOf seat.new self.now }
         ensures known { known_of seat.new
             ≡ known_of seat.old ++ place_in self.now (Key.Pair c c1 a1 c2 a2) modulus ∷ [] }
+        ensures moves { LooksOnce (place_in self.now (Key.Pair c c1 a1 c2 a2) modulus) seat.old seat.new }
     {
         let place = self.layout.pair(c, c1, a1, c2, a2, modulus);
         self.at_place(seat, place, Key::Pair { c, c1, a1, c2, a2 }, modulus)
@@ -168,6 +174,7 @@ impl FactorTable {
         ensures seat { IsSeatOf seat.new self.now }
         ensures known { known_of seat.new
             ≡ known_of seat.old ++ place_in self.now (Key.ClassEdge class i j a) modulus ∷ [] }
+        ensures moves { LooksOnce (place_in self.now (Key.ClassEdge class i j a) modulus) seat.old seat.new }
     {
         let place = self.layout.class_edge(class, i, j, a, modulus);
         self.at_place(seat, place, Key::ClassEdge { class, i, j, a }, modulus)
@@ -194,6 +201,7 @@ impl FactorTable {
         ensures seat { IsSeatOf seat.new self.now }
         ensures known { known_of seat.new
             ≡ known_of seat.old ++ place_in self.now (Key.ClassVertex class c s) modulus ∷ [] }
+        ensures moves { LooksOnce (place_in self.now (Key.ClassVertex class c s) modulus) seat.old seat.new }
     {
         let place = self.layout.class_vertex(class, c, s, modulus);
         self.at_place(seat, place, Key::ClassVertex { class, c, s }, modulus)
@@ -211,6 +219,7 @@ impl FactorTable {
         ensures seat { IsSeatOf seat.new self.now }
         ensures known { known_of seat.new
             ≡ known_of seat.old ++ place_in self.now (Key.Tangent c) modulus ∷ [] }
+        ensures moves { LooksOnce (place_in self.now (Key.Tangent c) modulus) seat.old seat.new }
     {
         let place = self.layout.tangent(c, modulus);
         match self.at_place(seat, place, Key::Tangent { c }, modulus) {
@@ -235,6 +244,7 @@ impl FactorTable {
         ensures value { IsFactorIn self.now key modulus result }
         ensures seat { IsSeatOf seat.new self.now }
         ensures known { known_of seat.new ≡ known_of seat.old ++ place_in self.now key modulus ∷ [] }
+        ensures moves { LooksOnce (place_in self.now key modulus) seat.old seat.new }
     {
         let found = self.table.shared.load::<Look>(&mut seat.seat, place);
         if found == 0 {
@@ -261,6 +271,7 @@ impl FactorTable {
         ensures value { IsFactorIn self.now key modulus result }
         ensures seat { IsSeatOf seat.new self.now }
         ensures known { known_of seat.new ≡ known_of seat.old ++ place_in self.now key modulus ∷ [] }
+        ensures moves { moves_of seat.new ≡ moves_of seat.old ++ Move.Fill place ∷ [] }
     {
         let modulo = self.parameters.moduli.get(modulus as usize);
         let answer = self.parameters.factor(key, modulo);

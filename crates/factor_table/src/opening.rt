@@ -5,7 +5,7 @@ ghost use Rattle.arithmetic.specs.Numbers.{reduce};
 ghost use Rattle.factor_table.specs.Places.{AreWithinLimits, first_factor, words_of};
 ghost use Rattle.factor_table.specs.Factors.{parameters, sizes_of};
 ghost use Rattle.factor_table.specs.Rule.{first_words, opening_view};
-ghost use Rattle.factor_table.specs.Seats.{parameters_of, word_count, IsSeatOf, known_of};
+ghost use Rattle.factor_table.specs.Seats.{parameters_of, word_count, IsSeatOf, known_of, moves_of};
 
 use crate::layout::Layout;
 use crate::parameters::Parameters;
@@ -41,7 +41,7 @@ impl FactorTable {
             word_count r.0 ≡ words_of (sizes_of (parameters setup.now degree moduli.now classes.now))) }
         ensures limited { IfOk result (λ r. word_count r.0 < 9300000) }
         ensures seats { IfOk result (λ r. length r.1.items ≡ seats) }
-        ensures seated { IfOk result (λ r. All (λ s. IsSeatOf s r.0 × (known_of s ≡ [])) r.1.items) }
+        ensures seated { IfOk result (λ r. All (λ s. IsSeatOf s r.0 × (known_of s ≡ []) × (moves_of s ≡ [])) r.1.items) }
     {
         let parameters = Parameters::copied(alloc, setup, degree, moduli, classes)?;
         let layout = Layout::new(parameters.sizes());

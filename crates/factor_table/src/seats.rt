@@ -1,10 +1,11 @@
 //! What a table is of, and how seats pass on what they know.
 
-ghost use Rattle.std.specs.Prelude.{◌≡◌, ℕ, ◌<◌, ◌≤◌, ◌++◌, length};
+ghost use Rattle.std.specs.Prelude.{◌≡◌, ℕ, ◌<◌, ◌≤◌, ◌++◌, [], ◌∷◌, length};
 ghost use Rattle.factor_table.specs.declared.key.Key.{Key};
+ghost use Rattle.factor_table.specs.declared.table.Move.{Move};
 ghost use Rattle.factor_table.specs.Places.{IsWithin, first_factor};
 ghost use Rattle.factor_table.specs.Factors.{sizes_of};
-ghost use Rattle.factor_table.specs.Seats.{parameters_of, word_count, place_in, IsSeatOf, known_of};
+ghost use Rattle.factor_table.specs.Seats.{parameters_of, word_count, place_in, IsSeatOf, known_of, moves_of};
 
 use crate::key::Key;
 use crate::parameters::Parameters;
@@ -46,6 +47,8 @@ impl FactorTable {
         ensures new_seat { IsSeatOf result self.now }
         ensures known { known_of seat.new ≡ known_of seat.old }
         ensures new_known { known_of result ≡ known_of seat.old }
+        ensures moves { moves_of seat.new ≡ moves_of seat.old ++ Move.Split ∷ [] }
+        ensures new_moves { moves_of result ≡ [] }
     {
         let other = self.table.shared.split_seat::<Divide>(&mut seat.seat);
         FactorSeat { seat: other }
@@ -57,6 +60,7 @@ impl FactorTable {
         requires other { IsSeatOf other self.now }
         ensures seat { IsSeatOf seat.new self.now }
         ensures known { known_of seat.new ≡ known_of seat.old ++ known_of other }
+        ensures moves { moves_of seat.new ≡ moves_of seat.old ++ Move.Join ∷ [] }
     {
         let FactorSeat { seat: other } = other;
         self.table.shared.join_seat::<Gather>(&mut seat.seat, other);

@@ -10,10 +10,19 @@ use atomic_table::{Join, Play, Seat, Split, Table, TableRule};
 use std::alloc::Global;
 use std::collections::LinkedList;
 
-// What a seat of the table knows. No value of it is made.
+// A step of a seat. No value of it is made.
+pub enum Move {
+    Load { place: usize, found: u64 },
+    Fill { place: usize },
+    Split,
+    Join,
+}
+
+// What a seat of the table knows, and the steps that it made. No value of it is made.
 pub struct View {
     pub parameters: Parameters,
     pub known: LinkedList<usize>,
+    pub moves: LinkedList<Move>,
     pub joined_away: bool,
 }
 
@@ -46,11 +55,11 @@ impl Play<(), View> for Fill {
 pub(crate) struct Divide;
 
 impl Split<View> for Divide {
-    ghost use Rattle.factor_table.specs.Rule.{same};
+    ghost use Rattle.factor_table.specs.Rule.{divided, new_view};
 
-    ghost left = { same };
+    ghost left = { divided };
 
-    ghost right = { same };
+    ghost right = { new_view };
 }
 
 pub(crate) struct Gather;
