@@ -203,7 +203,7 @@ decided run n e served taken = for_file run (λ found. IfSome found Ended) by_fo
     by_end bytes f (problem_refused is e) =
         inl (inl (is, subst (λ x. IsErr (reading x)) (same bytes e.name e.bytes f e.words e.file) (subst IsErr (sym e.refused) refl)))
     by_end bytes f (no_inverse is e) = summed bytes e.problem f e.begins (inl (is, has_bad_tree run e))
-    by_end bytes f (read_fault is e) = absurd (served e.files.rose)
+    by_end bytes f (read_fault is e) = absurd (served e.files.fault.rose)
     by_end bytes f (write_fault is e) = absurd (taken e.out.fault)
     by_end bytes f (want_of_memory is e) = inr is
 

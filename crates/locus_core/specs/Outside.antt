@@ -42,9 +42,10 @@ sink_change written is_flushed faults old new = record {
 abbrev pub Holds : Change FilesState → List ℕ → List ℕ → Type 0
 Holds files name bytes = IfSome files.before.content (λ told. file_of name told ≡ Some bytes)
 
--- the files counted a fault, and it was at this name
-abbrev pub HasFaultAt : Change FilesState → List ℕ → Type 0
-HasFaultAt files name = RoseBy files.before.faults files.after.faults name files.after.last_fault
+-- the files counted a fault, and it was at this name; what they hold is as before
+pub record HasFaultAt (files : Change FilesState) (name : List ℕ) : Type 0 where
+  pub fault : RoseBy files.before.faults files.after.faults name files.after.last_fault
+  pub content : files.after.content ≡ files.before.content
 
 -- the whole text was written, nothing of it is held back, and no fault was counted
 pub record Takes (sink : Change SinkState) (text : List ℕ) : Type 0 where
