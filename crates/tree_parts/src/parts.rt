@@ -70,6 +70,13 @@ impl TreeParts {
         }
     }
 
+    /// The rank, which is at least each colour.
+    pub fn rank(&self) -> u8
+        ensures { result ≡ self.now.shape.rank }
+    {
+        self.rank
+    }
+
     /// The number of vertices, from 2 to 11.
     pub fn vertices(&self) -> u8
         ensures value { result ≡ self.now.tree.vertices }
