@@ -14,8 +14,8 @@ use tree_parts::TreeParts;
 /// The residues of the top and the bottom of the value of a term at a tree, without a division: the coefficient times
 /// the product of the values of its classes, each to its power.
 ///
-/// The rank of the tree is at most that of the weights, and the parameter and the mark of each class, where it has one, are
-/// within their limits.
+/// The rank of the tree is at most that of the weights, and the parameter and the mark of each class, if it has one,
+/// are within their limits.
 pub fn term_ratio(setup: &Setup, term: &Term, parts: &TreeParts, modulus: &Modulus) -> Ratio
     requires classes { All (IsPowerFor parts.now.shape.marks) term.now.classes }
     requires rank { parts.now.shape.rank < length setup.now }

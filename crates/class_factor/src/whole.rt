@@ -3,7 +3,8 @@
 ghost use Rattle.std.specs.Prelude.{◌<◌, ◌≤◌, length, ℤ};
 ghost use Rattle.arithmetic.specs.Numbers.{Leaves, total, sum_below};
 ghost use Rattle.arithmetic.specs.Fractions.{product_of_fractions};
-ghost use Rattle.localisation.specs.ClassValue.{class_edge, class_value, incidence_at, incidence_term, at_edges, at_vertices};
+ghost use Rattle.localisation.specs.ClassValue.{class_edge, class_value, incidence_at, incidence_term};
+ghost use Rattle.localisation.specs.ClassValue.{at_edges, at_vertices};
 ghost use Rattle.residue.specs.Degrees.{HasParameterWithinLimit};
 ghost use Rattle.residue.specs.Ratios.{IsRatioOf};
 ghost use Rattle.residue.specs.Classes.{IsClassFor};
@@ -16,7 +17,7 @@ use tree_parts::TreeParts;
 
 /// The residues of the top and the bottom of the value of a class at a tree, without a division.
 ///
-/// The rank of the tree is at most that of the weights, and the parameter and the mark of the class, where it has one,
+/// The rank of the tree is at most that of the weights, and the parameter and the mark of the class, if it has one,
 /// are within their limits: a mark is from 1 to the number of the tree's marks.
 pub fn whole_ratio(setup: &Setup, class: &Class, parts: &TreeParts, modulus: &Modulus) -> Ratio
     requires class { IsClassFor parts.now.shape.marks class.now }
@@ -44,7 +45,8 @@ pub fn whole_ratio(setup: &Setup, class: &Class, parts: &TreeParts, modulus: &Mo
 fn edge_parts(setup: &Setup, class: &Class, parts: &TreeParts, modulus: &Modulus) -> Ratio
     requires parameter { HasParameterWithinLimit class.now }
     requires rank { parts.now.shape.rank < length setup.now }
-    ensures { IsRatioOf modulus.now (product_of_fractions (at_edges (class_edge setup.now class.now) parts.now.tree)) result }
+    ensures { IsRatioOf modulus.now
+        (product_of_fractions (at_edges (class_edge setup.now class.now) parts.now.tree)) result }
 {
     let mut product = Ratio::whole(modulus.of_u64(1), modulus);
     let edges = parts.edges();
@@ -59,7 +61,8 @@ fn edge_parts(setup: &Setup, class: &Class, parts: &TreeParts, modulus: &Modulus
 fn vertex_parts(setup: &Setup, class: &Class, parts: &TreeParts, modulus: &Modulus) -> Ratio
     requires rank { parts.now.shape.rank < length setup.now }
     ensures { IsRatioOf modulus.now
-        (product_of_fractions (at_vertices (class_at_vertex setup.now class.now parts.now.tree) parts.now.tree)) result }
+        (product_of_fractions
+        (at_vertices (class_at_vertex setup.now class.now parts.now.tree) parts.now.tree)) result }
 {
     let mut product = Ratio::whole(modulus.of_u64(1), modulus);
     for vertex in 0..parts.vertices() {

@@ -1,5 +1,5 @@
-//! A decorated tree as its factors read it: its edges with the colours of their ends, and the ends and the marks at each
-//! vertex, all found once.
+//! A decorated tree as its factors read it: its edges with the colours of their ends, and the ends and the marks at
+//! each vertex, all found once.
 #![tactic(auto)]
 
 mod edges;

@@ -8,8 +8,8 @@ use crate::marks::{Marks, marks_by_vertex};
 use decorated_tree::Tree;
 use std::marker::Model;
 
-/// A decorated tree of some shape, with its edges, ends and marks as the factors of a contribution read them. Its sum of
-/// degrees is at most 10, and it has at most 12 marks.
+/// A decorated tree of some shape, with its edges, ends and marks as the factors of a contribution read them. Its sum
+/// of degrees is at most 10, and it has at most 12 marks.
 ///
 /// Contracts see the shape and the decorated tree. Every value is one: its edges are a tree, the colours of neighbours
 /// differ and are at most the rank, each degree is positive, and each mark is at one of the vertices.
