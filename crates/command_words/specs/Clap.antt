@@ -7,17 +7,20 @@ use Rattle.clap.specs.declared.builder.value_parser.ValueParser.{ValueParser}
 use Rattle.clap.specs.declared.builder.value_parser.ValueParser.TheVariants as vp
 use Rattle.command_words.specs.declared.table.Limit.{Limit}
 use Rattle.command_words.specs.declared.table.Limit.TheVariants as limit
-use Rattle.command_words.specs.Usages.{Slot, Usage}
+use Rattle.command_words.specs.declared.table.Program.{Program}
+use Rattle.command_words.specs.Usages.{Slot, Usage, table_of}
 
 abbrev pub parser_for : Limit → Option ValueParser
 parser_for (limit.Number low high) = Some (vp.Unsigned low high)
 parser_for limit.Text = None
 
 abbrev pub plain_rule : Bool → Slot → Rule
-plain_rule required s = record (new_rule s.name) { action = Some Set; parser = parser_for s.limit; required = required }
+plain_rule required s =
+    record (new_rule s.name) { action = Some Set; parser = parser_for s.limit; required = required }
 
 abbrev pub option_rule : Slot → Rule
-option_rule s = record (new_rule s.name) { long = Some s.name; action = Some Set; parser = parser_for s.limit }
+option_rule s =
+    record (new_rule s.name) { long = Some s.name; action = Some Set; parser = parser_for s.limit }
 
 -- the plain words from the place i on
 abbrev pub plain_rules : ℕ → ℕ → List Slot → List Rule
@@ -39,8 +42,13 @@ abbrev pub shape_for : Usage → Shape
 shape_for u = record (new_shape u.name) { rules = rules_for u }
 
 abbrev pub bare_shape : Shape → Shape
-bare_shape s = record s { disable_help_flag = true; disable_help_subcommand = true; subcommand_required = true }
+bare_shape s =
+    record s { disable_help_flag = true; disable_help_subcommand = true; subcommand_required = true }
 
 -- the whole command, over the rows of a table
 abbrev pub app_for : Text → List Usage → App
-app_for name table = record { top = record (bare_shape (new_shape name)) { is_leaf = false }; subs = map shape_for table }
+app_for name table =
+    record { top = record (bare_shape (new_shape name)) { is_leaf = false }; subs = map shape_for table }
+
+abbrev pub app_of_program : Program → App
+app_of_program p = app_for p.name.now (table_of p)

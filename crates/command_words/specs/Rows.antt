@@ -1,7 +1,8 @@
 -- The values of a use, as clap keeps them.
 use Rattle.std.specs.Prelude.{◌≡◌, Bool, List, [], ◌∷◌, map, Option, Some, None, find}
 use Rattle.std.specs.Str.{bytes_eq}
-use Rattle.clap.specs.Walk.{Row, Text, first_of}
+use Rattle.clap.specs.Matches.{found_of}
+use Rattle.clap.specs.Walk.{Row, Text, first_of, rows_of}
 use Rattle.clap.specs.Simple.{subcommand_rows_of}
 use Rattle.clap.specs.declared.parser.matches.ArgMatches.{ArgMatches}
 use Rattle.clap.specs.declared.builder.value_parser.Reading.TheVariants.{AsWritten}
@@ -26,6 +27,10 @@ row_for g = record { id = g.0; values = g.1 ∷ []; count = None; source = Some 
 
 abbrev pub rows_for : List (Text × Text) → List Row
 rows_for given = map row_for given
+
+-- the rows of the values that clap found
+abbrev pub rows_in : ArgMatches → List Row
+rows_in m = rows_of (found_of m)
 
 abbrev pub texts_then : Option Text → List Text → List Text
 texts_then None rest = []
@@ -57,4 +62,6 @@ pub record HoldsRows (g : Given) (u : Usage) (rows : List Row) : Type 0 where
 
 -- where the matches are of a command of the table, it is given with their values
 abbrev pub GivesUse : List Usage → ArgMatches → Option Given → Type 0
-GivesUse table m g = (u : Usage) (rows : List Row) → usage_named table u.name ≡ Some u → subcommand_rows_of m ≡ Some (u.name, rows) → (given : Given) × (g ≡ Some given) × HoldsRows given u rows
+GivesUse table m g = (u : Usage) (rows : List Row) → usage_named table u.name ≡ Some u
+    → subcommand_rows_of m ≡ Some (u.name, rows)
+    → (given : Given) × (g ≡ Some given) × HoldsRows given u rows

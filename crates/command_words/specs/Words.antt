@@ -1,5 +1,7 @@
 -- What the words after a command say, and when the command is used as it may be.
-use Rattle.std.specs.Prelude.{◌≡◌, ◌<◌, ◌++◌, ℕ, Bool, true, false, ◌&&◌, ◌||◌, ◌==◌, not, List, [], ◌∷◌, map, length, drop, Option, Some, None, option_map, option_and_then, if◌then◌else◌, nat_le, find, codes}
+use Rattle.std.specs.Prelude.{◌≡◌, ◌<◌, ◌++◌, ℕ, Bool, true, false, ◌&&◌, ◌||◌, ◌==◌, not, List, [], ◌∷◌, map}
+use Rattle.std.specs.Prelude.{length, drop, Option, Some, None, option_map, option_and_then, if◌then◌else◌, nat_le}
+use Rattle.std.specs.Prelude.{find, codes}
 use Rattle.std.specs.List.{list_any, list_all}
 use Rattle.std.specs.Option.{option_map_or}
 use Rattle.std.specs.Str.{bytes_eq}
@@ -22,9 +24,13 @@ is_name name = not (has_byte 61 name)
 -- value that is not empty.
 pub data Says : List Text → List Item → Type 0 where
   nothing : Says [] []
-  bare_word : (w : Text) (ws : List Text) (is : List Item) → is_plain w ≡ true → Says ws is → Says (w ∷ ws) (plain w ∷ is)
-  apart : (name value : Text) (ws : List Text) (is : List Item) → is_name name ≡ true → 0 < length name → is_plain value ≡ true → Says ws is → Says ((codes "--" ++ name) ∷ value ∷ ws) (option name value ∷ is)
-  joined : (name value : Text) (ws : List Text) (is : List Item) → is_name name ≡ true → 0 < length value → Says ws is → Says ((codes "--" ++ name ++ 61 ∷ value) ∷ ws) (option name value ∷ is)
+  bare_word : (w : Text) (ws : List Text) (is : List Item) → is_plain w ≡ true → Says ws is
+      → Says (w ∷ ws) (plain w ∷ is)
+  apart : (name value : Text) (ws : List Text) (is : List Item) → is_name name ≡ true → 0 < length name
+      → is_plain value ≡ true → Says ws is
+      → Says ((codes "--" ++ name) ∷ value ∷ ws) (option name value ∷ is)
+  joined : (name value : Text) (ws : List Text) (is : List Item) → is_name name ≡ true → 0 < length value → Says ws is
+      → Says ((codes "--" ++ name ++ 61 ∷ value) ∷ ws) (option name value ∷ is)
 
 -- the plain words, and the options with their values
 abbrev pub plains_in : List Item → List Text
@@ -72,7 +78,8 @@ value_named name values = option_map (λ g. g.1) (find (λ g. bytes_eq g.0 name)
 
 -- the number that the text is, as Rust reads a u64
 abbrev pub number_in : Text → Option ℕ
-number_in value = if is_unsigned_in 0 18446744073709551615 value then Some (digits_value 10 (without_leading_plus value)) else None
+number_in value = if is_unsigned_in 0 18446744073709551615 value then Some (digits_value 10 (without_leading_plus value))
+    else None
 
 -- ---- words that are refused before they are read as items
 
@@ -91,7 +98,8 @@ is_empty_option word = option_map_or has_empty_value (option_and_then (strip_byt
 
 -- a word that is empty, `-`, `--`, or an option with nothing after its `=`
 abbrev pub is_refused_first : Text → Bool
-is_refused_first word = ((is_empty word || bytes_eq word (codes "-")) || bytes_eq word (codes "--")) || is_empty_option word
+is_refused_first word = ((is_empty word || bytes_eq word (codes "-")) || bytes_eq word (codes "--"))
+    || is_empty_option word
 
 -- a word after the first is such a word
 abbrev pub AreRefusedFirst : List Text → Type 0

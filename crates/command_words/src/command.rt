@@ -3,7 +3,7 @@ ghost use Rattle.std.specs.Prelude.{◌≡◌, IfOk, false, map, ◌<◌, length
 ghost use Rattle.clap.specs.Walk.{rule_of};
 ghost use Rattle.clap.specs.Simple.{app_of, shape_of};
 ghost use Rattle.clap.specs.declared.builder.command.Command.TheViews.{out-Command};
-ghost use Rattle.command_words.specs.Clap.{app_for, plain_rule, plain_rules, option_rule, shape_for, with_rules};
+ghost use Rattle.command_words.specs.Clap.{app_of_program, plain_rule, plain_rules, option_rule, shape_for, with_rules};
 ghost use Rattle.command_words.specs.Usages.{slot_of, usage_of};
 
 use crate::table::{Argument, CommandRow, Limit, Program};
@@ -46,7 +46,8 @@ fn with_plains<'a>(
     arguments: &'a [Argument<'a>],
     least: usize,
 ) -> Result<Command<'a>, AllocError>
-    ensures app { IfOk result (λ c. app_of c ≡ with_rules (app_of command.entry) (plain_rules least 0 (map slot_of arguments.now))) }
+    ensures app { IfOk result (λ c.
+        app_of c ≡ with_rules (app_of command.entry) (plain_rules least 0 (map slot_of arguments.now))) }
     ensures local { IfOk result (λ c. (out-Command c).has_globals ≡ (out-Command command.entry).has_globals) }
 {
     let mut made = command;
@@ -62,7 +63,8 @@ fn with_options<'a>(
     command: Command<'a>,
     arguments: &'a [Argument<'a>],
 ) -> Result<Command<'a>, AllocError>
-    ensures app { IfOk result (λ c. app_of c ≡ with_rules (app_of command.entry) (map option_rule (map slot_of arguments.now))) }
+    ensures app { IfOk result (λ c.
+        app_of c ≡ with_rules (app_of command.entry) (map option_rule (map slot_of arguments.now))) }
     ensures local { IfOk result (λ c. (out-Command c).has_globals ≡ (out-Command command.entry).has_globals) }
 {
     let mut made = command;
@@ -86,10 +88,10 @@ fn subcommand<'a>(alloc: Global, row: &'a CommandRow<'a>) -> Result<Command<'a>,
 /// The command over the rows of a table.
 pub(crate) fn command<'a>(
     alloc: Global,
-    program: &'a Program<'a>,
+    program: Program<'a>,
 ) -> Result<Command<'a>, AllocError>
-    requires { 0 < length program.now.commands.now }
-    ensures { IfOk result (λ c. app_of c ≡ app_for program.now.name.now (map usage_of program.now.commands.now)) }
+    requires { 0 < length program.commands.now }
+    ensures { IfOk result (λ c. app_of c ≡ app_of_program program.entry) }
 {
     let mut made = Command::new(alloc, program.name)
         .disable_help_flag(true)

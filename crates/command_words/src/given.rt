@@ -1,10 +1,8 @@
 //! What words give a command: its plain words and its options.
-ghost use Rattle.std.specs.Prelude.{◌≡◌, IfOk, List, Some, map, true, option_map};
-ghost use Rattle.clap.specs.Matches.{found_of};
-ghost use Rattle.clap.specs.Walk.{first_of, rows_of};
-ghost use Rattle.clap.specs.Simple.{subcommand_rows_of};
-ghost use Rattle.command_words.specs.Rows.{pairs_of, rows_for, texts_of, values_in};
-ghost use Rattle.command_words.specs.Taken.{Holds, pair_of};
+ghost use Rattle.std.specs.Prelude.{◌≡◌, IfOk, map, option_map};
+ghost use Rattle.clap.specs.Walk.{first_of};
+ghost use Rattle.command_words.specs.Rows.{HoldsRows, pairs_of, rows_in, texts_of};
+ghost use Rattle.command_words.specs.Taken.{pair_of};
 ghost use Rattle.command_words.specs.Usages.{slot_of, usage_of};
 ghost use Rattle.command_words.specs.Words.{value_named};
 
@@ -49,7 +47,7 @@ impl<'a> Given<'a> {
 
 /// The text of this name.
 fn text<'a>(matches: &ArgMatches<'a>, name: &str) -> Option<&'a str>
-    ensures { option_map (λ s. s.now) result ≡ first_of name.now (rows_of (found_of matches.now)) }
+    ensures { option_map (λ s. s.now) result ≡ first_of name.now (rows_in matches.now) }
 {
     matches.get_str(name)
 }
@@ -61,7 +59,8 @@ fn plains<'a>(
     matches: &ArgMatches<'a>,
     arguments: &[Argument<'a>],
 ) -> Result<Vec<&'a str>, AllocError>
-    ensures { IfOk result (λ r. map (λ s. s.now) r.items ≡ texts_of (map slot_of arguments.now) (rows_of (found_of matches.now))) }
+    ensures { IfOk result (λ r.
+        map (λ s. s.now) r.items ≡ texts_of (map slot_of arguments.now) (rows_in matches.now)) }
 {
     let mut found = Vec::new(alloc);
     for argument in arguments {
@@ -80,7 +79,8 @@ fn options<'a>(
     matches: &ArgMatches<'a>,
     arguments: &[Argument<'a>],
 ) -> Result<Vec<GivenOption<'a>>, AllocError>
-    ensures { IfOk result (λ r. map pair_of r.items ≡ pairs_of (map slot_of arguments.now) (rows_of (found_of matches.now))) }
+    ensures { IfOk result (λ r.
+        map pair_of r.items ≡ pairs_of (map slot_of arguments.now) (rows_in matches.now)) }
 {
     let mut found = Vec::new(alloc);
     for argument in arguments {
@@ -100,9 +100,7 @@ pub(crate) fn given_by<'a>(
     row: &CommandRow<'a>,
     matches: &ArgMatches<'a>,
 ) -> Result<Given<'a>, AllocError>
-    ensures command { IfOk result (λ g. g.command.now ≡ row.now.name.now) }
-    ensures plains { IfOk result (λ g. map (λ w. w.now) g.plains.items ≡ texts_of (map slot_of row.now.plains.now) (rows_of (found_of matches.now))) }
-    ensures options { IfOk result (λ g. map pair_of g.options.items ≡ pairs_of (map slot_of row.now.options.now) (rows_of (found_of matches.now))) }
+    ensures { IfOk result (λ g. HoldsRows g (usage_of row.now) (rows_in matches.now)) }
 {
     Ok(Given {
         command: row.name,

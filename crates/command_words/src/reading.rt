@@ -3,10 +3,10 @@ ghost use Rattle.std.specs.Prelude.{◌≡◌, ◌≢◌, ◌<◌, length, IfOk,
 ghost use Rattle.clap.specs.Faults.{fault_of};
 ghost use Rattle.clap.specs.Simple.{HasMatchesOf};
 ghost use Rattle.clap.specs.Values.{kind_of};
-ghost use Rattle.command_words.specs.Clap.{app_for};
+ghost use Rattle.command_words.specs.Clap.{app_of_program};
 ghost use Rattle.command_words.specs.Rows.{GivesUse, usage_named};
 ghost use Rattle.command_words.specs.Taken.{IsAnswer};
-ghost use Rattle.command_words.specs.Usages.{is_sound_table, usage_of};
+ghost use Rattle.command_words.specs.Usages.{is_sound_table, table_of, usage_of};
 
 use crate::command::command;
 use crate::given::{Given, given_by};
@@ -30,13 +30,14 @@ pub enum WordsError {
 #[tactic(auto, using(crate::proofs::Free::is_free))]
 fn matches_of<'a>(
     alloc: Global,
-    program: &'a Program<'a>,
+    program: Program<'a>,
     words: &'a [String],
 ) -> Result<ArgMatches<'a>, Error>
-    requires { 0 < length program.now.commands.now }
-    ensures ok { IfOk result (λ m. fault_of (app_for program.now.name.now (map usage_of program.now.commands.now)) (map string_bytes words.now) ≡ []) }
-    ensures found { IfOk result (HasMatchesOf (app_for program.now.name.now (map usage_of program.now.commands.now)) (map string_bytes words.now)) }
-    ensures err { IfErr result (λ e. kind_of e ≢ ErrorKind.OutOfMemory → fault_of (app_for program.now.name.now (map usage_of program.now.commands.now)) (map string_bytes words.now) ≢ []) }
+    requires { 0 < length program.commands.now }
+    ensures ok { IfOk result (λ m. fault_of (app_of_program program.entry) (map string_bytes words.now) ≡ []) }
+    ensures found { IfOk result (HasMatchesOf (app_of_program program.entry) (map string_bytes words.now)) }
+    ensures err { IfErr result (λ e. kind_of e ≢ ErrorKind.OutOfMemory
+        → fault_of (app_of_program program.entry) (map string_bytes words.now) ≢ []) }
 {
     command(alloc, program)?.try_get_matches_from(words)
 }
@@ -54,13 +55,13 @@ fn row_named<'a>(rows: &'a [CommandRow<'a>], name: &str) -> Option<&'a CommandRo
     None
 }
 
-/// What the matches of a use give.
+/// What the matches of a use give: `None` if they are of no command of the table.
 fn given_of<'a>(
     alloc: Global,
-    program: &'a Program<'a>,
+    program: Program<'a>,
     matches: &ArgMatches<'a>,
 ) -> Result<Option<Given<'a>>, AllocError>
-    ensures { IfOk result (GivesUse (map usage_of program.now.commands.now) matches.now) }
+    ensures { IfOk result (GivesUse (table_of program.entry) matches.now) }
 {
     let Some((name, inner)) = matches.subcommand() else {
         return Ok(None);
@@ -71,14 +72,24 @@ fn given_of<'a>(
     Ok(Some(given_by(alloc, row, inner)?))
 }
 
-/// Reads the words of the command line: where they are a use of a command of the table, what they give it.
+/// Reads the words of a command line: if they are a use of a command of the table, what they give it.
+///
+/// The first word is the name of the program and is not looked at. The next is the name of a command. Each further item
+/// is an option of that command, `--name value` or `--name=value`, or a plain word. The value after `=` is any text
+/// that is not empty; every other word that is a value or a plain word is not empty and does not begin with `-`.
+///
+/// # Errors
+///
+/// `Refused` exactly if a word after the first is empty, `-`, `--`, or an option with nothing after its `=`.
+/// `ByCommand` if there is no such word and the words are no use of a command of the table. `NoMemory` if the system
+/// gave no memory.
 pub fn read<'a>(
     alloc: Global,
-    program: &'a Program<'a>,
+    program: Program<'a>,
     words: &'a [String],
 ) -> Result<Given<'a>, WordsError>
-    requires sound { is_sound_table (map usage_of program.now.commands.now) ≡ true }
-    ensures answer { IsAnswer (map usage_of program.now.commands.now) (map string_bytes words.now) result }
+    requires sound { is_sound_table (table_of program) ≡ true }
+    ensures answer { IsAnswer (table_of program.entry) (map string_bytes words.now) result }
 {
     if has_refused_word(words) {
         return Err(WordsError::Refused);

@@ -7,7 +7,6 @@ use Rattle.command_words.proofs.reading.given_of.Goals as goal
 
 pub returns : goal.returns
 returns c =
-    let given = c.in_ok-given_by.ensures in
     use_given _ c.args.matches.now c.in_ok-given_by.field-0 c.in-Some.name.now (rows_of (found_of c.in-Some.inner.now)) (usage_of c.in-Some-row_named.row.now)
     (sym c.in-Some.ensures.name) (sym c.in-Some.ensures.rows) (sym c.in-Some-row_named.ensures)
-    (record { command = given.command; plains = given.plains; options = given.options })
+    c.in_ok-given_by.ensures

@@ -17,7 +17,7 @@ returns-in-Err-2 c =
     let other : kind_of c.in-Err-2.error ≢ OutOfMemory = search rules in
     record {
       answer = elim c.match-format.branch [
-        | in-Ok-format w ↦ rw w.result-is (not_refused c.args.words.now passes, not_taken c.args.program.now.name.now _ c.args.words.now c.requires.sound passes (c.in-Err-2.ensures.err other))
+        | in-Ok-format w ↦ rw w.result-is (not_refused c.args.words.now passes, not_taken c.args.program.name.now _ c.args.words.now c.requires.sound passes (c.in-Err-2.ensures.err other))
         | in-Err-format w ↦ rw w.result-is (not_refused c.args.words.now passes)
       ];
     }
@@ -25,12 +25,12 @@ returns-in-Err-2 c =
 pub returns-in-Ok-Some : goal.returns-in-Ok-Some
 returns-in-Ok-Some c =
     let passes = sym c.has_refused_word.ensures ∙ c.if-has_refused_word.false in
-    record { answer = given_ok c.args.program.now.name.now _ c.args.words.now c.in-Ok.matches c.in-Ok-Some.field-0 c.in-Ok-Some.found c.requires.sound passes c.in-Ok.ensures.ok c.in-Ok.ensures.found c.in-Ok-Some.ensures c.in-Ok-Some.field-0-is }
+    record { answer = given_ok c.args.program.name.now _ c.args.words.now c.in-Ok.matches c.in-Ok-Some.field-0 c.in-Ok-Some.found c.requires.sound passes c.in-Ok.ensures.ok c.in-Ok.ensures.found c.in-Ok-Some.ensures c.in-Ok-Some.field-0-is }
 
 pub unreachable-requires : goal.unreachable-requires
 unreachable-requires c =
     let passes = sym c.has_refused_word.ensures ∙ c.if-has_refused_word.false in
-    given_none c.args.program.now.name.now _ c.args.words.now c.in-Ok.matches c.in-Ok-None.field-0 c.requires.sound passes c.in-Ok.ensures.ok c.in-Ok.ensures.found c.in-Ok-None.ensures c.in-Ok-None.field-0-is
+    given_none c.args.program.name.now _ c.args.words.now c.in-Ok.matches c.in-Ok-None.field-0 c.requires.sound passes c.in-Ok.ensures.ok c.in-Ok.ensures.found c.in-Ok-None.ensures c.in-Ok-None.field-0-is
 
 pub returns : goal.returns
 returns c = record { answer = not_refused c.args.words.now (sym c.has_refused_word.ensures ∙ c.if-has_refused_word.false) }

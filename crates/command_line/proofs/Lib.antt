@@ -1,0 +1,4 @@
+mod Answers
+mod Names
+mod Rules
+mod Sound
