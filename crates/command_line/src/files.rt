@@ -6,6 +6,7 @@ macro_rules! file {
     ($name:expr, $help:expr) => {
         Argument {
             name: $name,
+            value: "FILE",
             limit: Limit::Text,
             help: $help,
         }

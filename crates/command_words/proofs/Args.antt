@@ -33,6 +33,7 @@ rule_at a = record (new_rule a.id) {
   index = a.place;
   action = Some Set;
   range = Some (record { start_inclusive = 1; end_inclusive = 1 });
+  value_names = 1;
   parser = Some (unwrap_or (parser_for a.limit) vp.String);
   required = a.required;
 }

@@ -15,12 +15,20 @@ parser_for (limit.Number low high) = Some (vp.Unsigned low high)
 parser_for limit.Text = None
 
 abbrev pub plain_rule : Bool → Slot → Rule
-plain_rule required s =
-    record (new_rule s.name) { action = Some Set; parser = parser_for s.limit; required = required }
+plain_rule required s = record (new_rule s.name) {
+  action = Some Set;
+  value_names = 1;
+  parser = parser_for s.limit;
+  required = required;
+}
 
 abbrev pub option_rule : Slot → Rule
-option_rule s =
-    record (new_rule s.name) { long = Some s.name; action = Some Set; parser = parser_for s.limit }
+option_rule s = record (new_rule s.name) {
+  long = Some s.name;
+  action = Some Set;
+  value_names = 1;
+  parser = parser_for s.limit;
+}
 
 -- the plain words from the place i on
 abbrev pub plain_rules : ℕ → ℕ → List Slot → List Rule

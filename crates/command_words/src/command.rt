@@ -16,6 +16,7 @@ fn plain_arg<'a>(alloc: Global, argument: &Argument<'a>, required: bool) -> Arg<
     ensures local { result.global ≡ false }
 {
     let arg = Arg::new(alloc, argument.name)
+        .value_name(argument.value)
         .help(argument.help)
         .required(required)
         .action(ArgAction::Set);
@@ -31,6 +32,7 @@ fn option_arg<'a>(alloc: Global, argument: &Argument<'a>) -> Arg<'a>
 {
     let arg = Arg::new(alloc, argument.name)
         .long(argument.name)
+        .value_name(argument.value)
         .help(argument.help)
         .action(ArgAction::Set);
     match argument.limit {

@@ -12,8 +12,10 @@ pub enum Limit {
 /// A plain word or an option of a command.
 #[derive(Clone, Copy, Debug)]
 pub struct Argument<'a> {
-    /// The name: of a plain word as messages call it, of an option the text after `--`.
+    /// The name: different from those of the others of its command, and for an option the text after `--`.
     pub name: &'a str,
+    /// What messages call the value.
+    pub value: &'a str,
     /// What its value may be.
     pub limit: Limit,
     /// What it is for.
