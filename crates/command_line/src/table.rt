@@ -4,7 +4,7 @@ ghost use Rattle.command_line.specs.Table.{table_of_commands};
 ghost use Rattle.command_words.specs.Usages.{table_of, usage_of};
 
 use crate::arguments::{
-    BUDGET, CHECKPOINT, FILE, HIGH, LIST, LOW, NUMBER, PART, PARTS, STOP_FILE, TEXT, TREE, WORKERS,
+    BUDGET, FILE, HIGH, LIST, LOW, NUMBER, PART, PARTS, STOP_FILE, TEXT, TREE, WORKERS,
 };
 use crate::files::{PROBLEMS, SHARDS};
 use command_words::{CommandRow, Program};
@@ -21,7 +21,6 @@ pub enum Commands {
 const BUILT_ROWS: [CommandRow<'static>; 1] = [
     CommandRow {
         name: "run",
-        about: "sum a problem and print its residues and fractions",
         usage: concat!(
             "locus run FILE\n\n",
             "  FILE  a problem file",
@@ -35,7 +34,6 @@ const BUILT_ROWS: [CommandRow<'static>; 1] = [
 const ALL_ROWS: [CommandRow<'static>; 11] = [
     CommandRow {
         name: "run",
-        about: "sum a problem and print its residues and fractions",
         usage: concat!(
             "locus run FILE [--workers N] [--budget N] [--stop-file NAME]\n\n",
             "  FILE              a problem file\n",
@@ -49,7 +47,6 @@ const ALL_ROWS: [CommandRow<'static>; 11] = [
     },
     CommandRow {
         name: "resume",
-        about: "go on with a sum that was paused",
         usage: concat!(
             "locus resume FILE [--workers N] [--budget N] [--stop-file NAME]\n\n",
             "  FILE              a checkpoint file\n",
@@ -57,13 +54,12 @@ const ALL_ROWS: [CommandRow<'static>; 11] = [
             "  --budget N        the greatest number of trees before a pause, from 1 to 1099511627776\n",
             "  --stop-file NAME  pause when there is a file of this name",
         ),
-        plains: &[CHECKPOINT],
+        plains: &[FILE],
         least: 1,
         options: &[WORKERS, BUDGET, STOP_FILE],
     },
     CommandRow {
         name: "make",
-        about: "print the generated problem of a number",
         usage: concat!(
             "locus make N\n\n",
             "  N  a number from 0 to 4294967295",
@@ -74,7 +70,6 @@ const ALL_ROWS: [CommandRow<'static>; 11] = [
     },
     CommandRow {
         name: "soak",
-        about: "sum the generated problem of a number",
         usage: concat!(
             "locus soak N [--workers N]\n\n",
             "  N            a number from 0 to 4294967295\n",
@@ -86,7 +81,6 @@ const ALL_ROWS: [CommandRow<'static>; 11] = [
     },
     CommandRow {
         name: "trees",
-        about: "print the trees of a range with their residues",
         usage: concat!(
             "locus trees FILE LO HI [--workers N]\n\n",
             "  FILE         a problem file\n",
@@ -99,7 +93,6 @@ const ALL_ROWS: [CommandRow<'static>; 11] = [
     },
     CommandRow {
         name: "rank",
-        about: "print the number of a tree",
         usage: concat!(
             "locus rank FILE TEXT\n\n",
             "  FILE  a problem file\n",
@@ -111,7 +104,6 @@ const ALL_ROWS: [CommandRow<'static>; 11] = [
     },
     CommandRow {
         name: "unrank",
-        about: "print the tree of a number",
         usage: concat!(
             "locus unrank FILE K\n\n",
             "  FILE  a problem file\n",
@@ -123,7 +115,6 @@ const ALL_ROWS: [CommandRow<'static>; 11] = [
     },
     CommandRow {
         name: "split",
-        about: "sum one shard of a problem",
         usage: concat!(
             "locus split FILE K I [--workers N]\n\n",
             "  FILE         a problem file\n",
@@ -137,7 +128,6 @@ const ALL_ROWS: [CommandRow<'static>; 11] = [
     },
     CommandRow {
         name: "merge",
-        about: "put shards together",
         usage: concat!(
             "locus merge FILE..\n\n",
             "  FILE..  1 to 64 shard files",
@@ -148,7 +138,6 @@ const ALL_ROWS: [CommandRow<'static>; 11] = [
     },
     CommandRow {
         name: "batch",
-        about: "sum the problems of a list",
         usage: concat!(
             "locus batch LIST [--workers N]\n\n",
             "  LIST         a file with the name of a problem file on each line\n",
@@ -160,7 +149,6 @@ const ALL_ROWS: [CommandRow<'static>; 11] = [
     },
     CommandRow {
         name: "cross",
-        about: "compare a problem under several choices of weights",
         usage: concat!(
             "locus cross FILE FILE.. [--workers N]\n\n",
             "  FILE..       2 to 8 problem files\n",

@@ -14,7 +14,7 @@ use Rattle.clap.specs.Simple.{HasMatchesOf, is_simple, subcommand_of, subcommand
 use Rattle.clap.specs.declared.parser.matches.ArgMatches.{ArgMatches}
 use Rattle.command_words.specs.declared.given.Given.{Given}
 use Rattle.command_words.specs.Usages.{Usage, commands_of, different, is_among, is_plain, is_sound, is_sound_table}
-use Rattle.command_words.specs.Words.{AreRefusedFirst, Item, is_refused_first, is_use, value_named}
+use Rattle.command_words.specs.Words.{AreRefusedFirst, Item, is_refused_first, is_use, names_in, value_named}
 use Rattle.command_words.specs.Rows.{GivesUse, HoldsRows, rows_for, usage_named, values_in}
 use Rattle.command_words.specs.Clap.{app_for}
 use Rattle.command_words.specs.Taken.{AreTaken, Holds, IsGiven, IsUse}
@@ -26,7 +26,7 @@ use Rattle.command_words.proofs.Texts.{are_words}
 use Rattle.command_words.proofs.Said.{passes_first, plain_passes, said, says}
 use Rattle.command_words.proofs.Top.{law, name_is, values_law}
 use Rattle.command_words.proofs.Free.{is_free}
-use Rattle.command_words.proofs.Values.{options_read, words_read}
+use Rattle.command_words.proofs.Values.{options_read, pairs_differ, words_read}
 use Rattle.command_words.proofs.Bools.{and_both, not_true}
 
 -- ---- the rows of a table
@@ -185,6 +185,7 @@ holds g u items sound used h = record {
   command = h.command;
   plains = h.plains ∙ words_read u items sound used;
   options = λ name. ap (value_named name) h.options ∙ options_read u items name sound used;
+  once = ap (λ given. different (names_in given)) h.options ∙ pairs_differ u (rows_for (values_in u.plains items)) sound;
 }
 
 pub given_use : (program : Text) (table : List Usage) (words : List (String Global)) (m : ArgMatches) (g : Option Given) → is_sound_table table ≡ true → is_refused_word words ≡ false

@@ -8,7 +8,7 @@ use Rattle.std.proofs.lemmas.Bool.{false≢true}
 use Rattle.std.proofs.lemmas.List.{append_assoc, drop_all, length-append, map-append}
 use Rattle.std.proofs.lemmas.List.Folds.{list_any-append}
 use Rattle.std.proofs.lemmas.Slice.Eq.{bytes_eq-Decides}
-use Rattle.clap.specs.Walk.{Text, first_of}
+use Rattle.clap.specs.Walk.{Row, Text, first_of}
 use Rattle.command_words.specs.Usages.{Slot, Usage, different, fits, is_among, is_sound, names_of}
 use Rattle.command_words.specs.Words.{Item, plain, option, is_use, names_in, option_fits, options_in, plains_fit, plains_in, slot_named, value_named}
 use Rattle.command_words.specs.Rows.{pair_then, pairs_of, rows_for, texts_of, texts_then, values_in}
@@ -197,3 +197,29 @@ options_read u items name sound used =
     step true is true there diff = absurd (false≢true (sym (apart (names_of u.plains) (names_of u.options) name diff there) ∙ is))
     step true is false there diff = name_value u items name there
     step false is c there diff = sym (unnamed name (options_in items) (not_option u items name (used_options u items used) is))
+
+pairs_among : (slots : List Slot) (rows : List Row) (name : Text) → is_among name (names_of slots) ≡ false → is_among name (names_in (pairs_of slots rows)) ≡ false
+pairs_among [] rows name none = refl
+pairs_among (s ∷ slots) rows name none =
+    let (here, more) = or_false (bytes_eq s.name name) _ none in
+    step (first_of s.name rows) here (pairs_among slots rows name more)
+  where
+    step : (o : Option Text) → bytes_eq s.name name ≡ false → is_among name (names_in (pairs_of slots rows)) ≡ false → is_among name (names_in (pair_then s.name o (pairs_of slots rows))) ≡ false
+    step None here rest = rest
+    step (Some t) here rest = rw here rest
+
+pairs_once : (slots : List Slot) (rows : List Row) → different (names_of slots) ≡ true → different (names_in (pairs_of slots rows)) ≡ true
+pairs_once [] rows diff = refl
+pairs_once (s ∷ slots) rows diff =
+    let (head, tail) = and_both (not (is_among s.name (names_of slots))) _ diff in
+    step (first_of s.name rows) (pairs_among slots rows s.name (not_true _ head)) (pairs_once slots rows tail)
+  where
+    step : (o : Option Text) → is_among s.name (names_in (pairs_of slots rows)) ≡ false → different (names_in (pairs_of slots rows)) ≡ true → different (names_in (pair_then s.name o (pairs_of slots rows))) ≡ true
+    step None none rest = rest
+    step (Some t) none rest = rw none rest
+
+-- no option is read back twice
+pub pairs_differ : (u : Usage) (rows : List Row) → is_sound u ≡ true → different (names_in (pairs_of u.options rows)) ≡ true
+pairs_differ u rows sound =
+    let diff = (and_both (different (names_of u.plains ++ names_of u.options)) _ sound).0 in
+    pairs_once u.options rows (back (names_of u.plains) (names_of u.options) diff)

@@ -6,8 +6,9 @@ use Rattle.command_words.specs.declared.given.Given.{Given}
 use Rattle.command_words.specs.declared.given.GivenOption.{GivenOption}
 use Rattle.command_words.specs.declared.reading.WordsError.{WordsError}
 use Rattle.command_words.specs.declared.reading.WordsError.TheVariants.{NoMemory, Refused, ByCommand}
-use Rattle.command_words.specs.Usages.{Usage}
-use Rattle.command_words.specs.Words.{AreRefusedFirst, Item, Says, is_use, options_in, plains_in, value_named}
+use Rattle.command_words.specs.Usages.{Usage, different}
+use Rattle.command_words.specs.Words.{AreRefusedFirst, Item, Says, is_use, names_in, options_in, plains_in}
+use Rattle.command_words.specs.Words.{value_named}
 
 -- The words are a use of a command of the table: after any first word stands its name, what follows says the items, and
 -- the command may be used with these.
@@ -26,12 +27,13 @@ AreTaken table words = (u : Usage) × (items : List Item) × IsUse table words u
 abbrev pub pair_of : GivenOption → Text × Text
 pair_of o = (o.name.now, o.value.now)
 
--- What was given is this command with the plain words of these items, in their order, and for each name the value that
--- the items give to an option of this name.
+-- What was given is this command with the plain words of these items, in their order, and each option of the items once:
+-- for each name the value that the items give to an option of this name.
 pub record Holds (g : Given) (u : Usage) (items : List Item) : Type 0 where
   pub command : g.command.now ≡ u.name
   pub plains : map (λ w. w.now) g.plains.items ≡ plains_in items
   pub options : (name : Text) → value_named name (map pair_of g.options.items) ≡ value_named name (options_in items)
+  pub once : different (names_in (map pair_of g.options.items)) ≡ true
 
 -- the words are a use of a command of the table, and this is what they give it
 abbrev pub IsGiven : List Usage → List Text → Given → Type 0

@@ -23,7 +23,7 @@ pub record Usage : Type 0 where
   pub least : ℕ
   pub options : List Slot
 
--- the same, of the rows of a program, whose texts of help say nothing of what is taken
+-- the same, of the rows of a program, whose texts for messages say nothing of what is taken
 abbrev pub slot_of : Argument → Slot
 slot_of a = record { name = a.name.now; limit = a.limit }
 

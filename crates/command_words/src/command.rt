@@ -17,7 +17,6 @@ fn plain_arg<'a>(alloc: Global, argument: &Argument<'a>, required: bool) -> Arg<
 {
     let arg = Arg::new(alloc, argument.name)
         .value_name(argument.value)
-        .help(argument.help)
         .required(required)
         .action(ArgAction::Set);
     match argument.limit {
@@ -33,7 +32,6 @@ fn option_arg<'a>(alloc: Global, argument: &Argument<'a>) -> Arg<'a>
     let arg = Arg::new(alloc, argument.name)
         .long(argument.name)
         .value_name(argument.value)
-        .help(argument.help)
         .action(ArgAction::Set);
     match argument.limit {
         Limit::Number(least, most) => arg.value_parser(ValueParser::Unsigned(least, most)),
@@ -81,17 +79,13 @@ fn subcommand<'a>(alloc: Global, row: &'a CommandRow<'a>) -> Result<Command<'a>,
     ensures local { IfOk result (λ c. (out-Command c).has_globals ≡ false) }
 {
     let command = Command::new(alloc, row.name)
-        .about(row.about)
         .override_usage(row.usage);
     let command = with_plains(alloc, command, row.plains, row.least)?;
     with_options(alloc, command, row.options)
 }
 
 /// The command over the rows of a table.
-pub(crate) fn command<'a>(
-    alloc: Global,
-    program: Program<'a>,
-) -> Result<Command<'a>, AllocError>
+pub(crate) fn command<'a>(alloc: Global, program: Program<'a>) -> Result<Command<'a>, AllocError>
     requires { 0 < length program.commands.now }
     ensures { IfOk result (λ c. app_of c ≡ app_of_program program.entry) }
 {

@@ -18,8 +18,6 @@ pub struct Argument<'a> {
     pub value: &'a str,
     /// What its value may be.
     pub limit: Limit,
-    /// What it is for.
-    pub help: &'a str,
 }
 
 /// How a command is used.
@@ -27,9 +25,7 @@ pub struct Argument<'a> {
 pub struct CommandRow<'a> {
     /// The name, as it is written after that of the program.
     pub name: &'a str,
-    /// What the command does.
-    pub about: &'a str,
-    /// The text after `Usage: ` in messages.
+    /// The text after `Usage: ` in messages: how the command is used, and what its words and options are.
     pub usage: &'a str,
     /// The plain words, in their order.
     pub plains: &'a [Argument<'a>],
