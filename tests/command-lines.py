@@ -16,7 +16,7 @@ import random
 import re
 
 MOST = 2**40
-COUNT = 360
+COUNT = 300
 
 
 def number(low, high):
@@ -185,7 +185,7 @@ def main():
     taken = sum(c.split("  ")[0] not in ("refused", "command") for c in cases)
     assert COUNT // 3 < taken < COUNT * 3 // 4, taken
     parts = ["//! Lists of words, made by tests/command-lines.py: on each line what they ask, two spaces and the words."]
-    size = 60
+    size = 50
     for k in range(0, COUNT, size):
         parts.append(constant("ALL_%d" % (k // size + 1), "Of all commands.", cases[k:k + size]))
     parts.append(constant("BUILT", "Of the commands that are built.", built))

@@ -21,9 +21,14 @@ pub enum Command<'a> {
     /// Go on with a sum that was paused, from a checkpoint file.
     Resume(RunRequest<'a>),
     /// Print the generated problem of a number, from 0 to 2^32 - 1.
-    Make { number: u64 },
+    Make {
+        number: u64,
+    },
     /// Sum the generated problem of a number, from 0 to 2^32 - 1.
-    Soak { number: u64, workers: u64 },
+    Soak {
+        number: u64,
+        workers: u64,
+    },
     /// Print the trees of a problem file from the number `low` up to but without `high`.
     Trees {
         file: &'a str,
@@ -32,9 +37,15 @@ pub enum Command<'a> {
         workers: u64,
     },
     /// Print the number of a tree, from its text.
-    Rank { file: &'a str, text: &'a str },
+    Rank {
+        file: &'a str,
+        text: &'a str,
+    },
     /// Print the tree of a number, from 0 to 2^40.
-    Unrank { file: &'a str, number: u64 },
+    Unrank {
+        file: &'a str,
+        number: u64,
+    },
     /// Sum the shard of index `part`, from 0 to 63, of `parts` shards, from 1 to 64.
     Split {
         file: &'a str,
@@ -43,9 +54,17 @@ pub enum Command<'a> {
         workers: u64,
     },
     /// Put 1 to 64 shard files together.
-    Merge { files: Vec<&'a str> },
+    Merge {
+        files: Vec<&'a str>,
+    },
     /// Sum the problems that a list file names.
-    Batch { list: &'a str, workers: u64 },
+    Batch {
+        list: &'a str,
+        workers: u64,
+    },
     /// Compare 2 to 8 problem files that differ in their weights.
-    Cross { files: Vec<&'a str>, workers: u64 },
+    Cross {
+        files: Vec<&'a str>,
+        workers: u64,
+    },
 }

@@ -18,18 +18,13 @@ pub enum Commands {
     All,
 }
 
-const BUILT_ROWS: [CommandRow<'static>; 1] = [
-    CommandRow {
-        name: "run",
-        usage: concat!(
-            "locus run FILE\n\n",
-            "  FILE  a problem file",
-        ),
-        plains: &[FILE],
-        least: 1,
-        options: &[],
-    },
-];
+const BUILT_ROWS: [CommandRow<'static>; 1] = [CommandRow {
+    name: "run",
+    usage: concat!("locus run FILE\n\n", "  FILE  a problem file",),
+    plains: &[FILE],
+    least: 1,
+    options: &[],
+}];
 
 const ALL_ROWS: [CommandRow<'static>; 11] = [
     CommandRow {
@@ -60,10 +55,7 @@ const ALL_ROWS: [CommandRow<'static>; 11] = [
     },
     CommandRow {
         name: "make",
-        usage: concat!(
-            "locus make N\n\n",
-            "  N  a number from 0 to 4294967295",
-        ),
+        usage: concat!("locus make N\n\n", "  N  a number from 0 to 4294967295",),
         plains: &[NUMBER],
         least: 1,
         options: &[],
@@ -128,10 +120,7 @@ const ALL_ROWS: [CommandRow<'static>; 11] = [
     },
     CommandRow {
         name: "merge",
-        usage: concat!(
-            "locus merge FILE..\n\n",
-            "  FILE..  1 to 64 shard files",
-        ),
+        usage: concat!("locus merge FILE..\n\n", "  FILE..  1 to 64 shard files",),
         plains: &SHARDS,
         least: 1,
         options: &[],

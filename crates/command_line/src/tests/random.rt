@@ -51,6 +51,10 @@ pub(crate) const ALL_1: &str = concat!(
     "Merge { files: [\"+\", \"é\", \"f-\", \"run\"] }  locus|merge|+|é|f-|run\n",
     "Cross { files: [\"é\", \"f\", \"f-\", \"f-\", \"f-\", \"help\"], workers: 1 }  locus|cross|é|f|f-|f-|f-|help\n",
     "Cross { files: [\"f\", \"f-\", \"a=b\", \"f-\", \"run\", \"a=b\", \"g.toml\"], workers: 1 }  locus|cross|f|f-|a=b|f-|run|a=b|g.toml\n",
+);
+
+/// Of all commands.
+pub(crate) const ALL_2: &str = concat!(
     "Unrank { file: \"é\", number: 1 }  locus|unrank|é|+1\n",
     "Run(RunRequest { file: \"g.toml\", workers: 63, budget: 549755813888, stop_file: Some(\"run\") })  locus|run|--workers|63|g.toml|--stop-file|run|--budget|549755813888\n",
     "Run(RunRequest { file: \"é\", workers: 1, budget: 549755813888, stop_file: None })  locus|run|--budget|549755813888|é\n",
@@ -61,10 +65,6 @@ pub(crate) const ALL_1: &str = concat!(
     "command  locus|run|--workers|x|help\n",
     "command  locus|batch|--workers|1|--budget|--workers=1|a=b\n",
     "Soak { number: 1, workers: 1 }  locus|soak|1\n",
-);
-
-/// Of all commands.
-pub(crate) const ALL_2: &str = concat!(
     "Merge { files: [\"é\", \"f-\", \"g.toml\", \"run\"] }  locus|merge|é|f-|g.toml|run\n",
     "Resume(RunRequest { file: \"g.toml\", workers: 1, budget: 1099511627776, stop_file: None })  locus|resume|g.toml\n",
     "Merge { files: [\"f\", \"a=b\", \"é\", \"f\", \"+\", \"a=b\", \"f-\"] }  locus|merge|f|a=b|é|f|+|a=b|f-\n",
@@ -105,6 +105,10 @@ pub(crate) const ALL_2: &str = concat!(
     "Unrank { file: \"g.toml\", number: 549755813888 }  locus|unrank|g.toml|+549755813888\n",
     "command  locus|rank|--workers=3=4|+|f\n",
     "Run(RunRequest { file: \"g.toml\", workers: 2, budget: 1099511627776, stop_file: Some(\"a=b\") })  locus|run|--stop-file|a=b|--workers=002|g.toml\n",
+);
+
+/// Of all commands.
+pub(crate) const ALL_3: &str = concat!(
     "Rank { file: \"f\", text: \"f-\" }  locus|rank|f|f-\n",
     "command  locus|rank|0|--stop-file=a=b|é\n",
     "command  locus|runs|+|help|g.toml\n",
@@ -125,10 +129,6 @@ pub(crate) const ALL_2: &str = concat!(
     "Make { number: 0 }  locus|make|0\n",
     "Soak { number: 0, workers: 1 }  locus|soak|+0\n",
     "Merge { files: [\"run\", \"f\", \"g.toml\"] }  locus|merge|run|f|g.toml\n",
-);
-
-/// Of all commands.
-pub(crate) const ALL_3: &str = concat!(
     "Batch { list: \"+\", workers: 1 }  locus|batch|+\n",
     "refused  locus|cross|--stop-file=|é|0|f-|run|f-|f-|run\n",
     "Split { file: \"é\", parts: 64, part: 62, workers: 1 }  locus|split|é|64|62\n",
@@ -159,6 +159,10 @@ pub(crate) const ALL_3: &str = concat!(
     "command  locus|soak|--=1|0\n",
     "Merge { files: [\"f\", \"run\", \"0\", \"help\", \"help\", \"help\", \"+\"] }  locus|merge|f|run|0|help|help|help|+\n",
     "command  locus|rank|g.toml|--other=1|0\n",
+);
+
+/// Of all commands.
+pub(crate) const ALL_4: &str = concat!(
     "Rank { file: \"help\", text: \"f-\" }  locus|rank|help|f-\n",
     "command  locus|unrank|é|1|-5\n",
     "command  locus|make|4294967295|--other\n",
@@ -189,10 +193,6 @@ pub(crate) const ALL_3: &str = concat!(
     "Batch { list: \"+\", workers: 64 }  locus|batch|--workers|64|+\n",
     "Run(RunRequest { file: \"f\", workers: 1, budget: 1099511627776, stop_file: Some(\"f-\") })  locus|run|f|--stop-file=f-|--budget=+1099511627776\n",
     "Unrank { file: \"help\", number: 1099511627776 }  locus|unrank|help|001099511627776\n",
-);
-
-/// Of all commands.
-pub(crate) const ALL_4: &str = concat!(
     "Rank { file: \"run\", text: \"g.toml\" }  locus|rank|run|g.toml\n",
     "command  locus|resume|--workers=002|a=b|--workers|2\n",
     "command  locus|split|-5|a=b|32|31|--workers=64\n",
@@ -213,6 +213,10 @@ pub(crate) const ALL_4: &str = concat!(
     "command  locus|trees|g.toml|0|--work=3|000\n",
     "Batch { list: \"+\", workers: 1 }  locus|batch|--workers|001|+\n",
     "command  locus|resume|run|--Workers=3\n",
+);
+
+/// Of all commands.
+pub(crate) const ALL_5: &str = concat!(
     "command  locus|run|--workers|64|--budget|x|run\n",
     "Soak { number: 4294967294, workers: 1 }  locus|soak|4294967294\n",
     "Merge { files: [\"+\", \"run\", \"run\", \"run\", \"0\", \"a=b\"] }  locus|merge|+|run|run|run|0|a=b\n",
@@ -253,10 +257,6 @@ pub(crate) const ALL_4: &str = concat!(
     "command  locus|split|f-|+32|--workers=65|0\n",
     "command  locus|make|--stop-file=-x|0x1\n",
     "command  locus|rank|f|--other|é\n",
-);
-
-/// Of all commands.
-pub(crate) const ALL_5: &str = concat!(
     "Unrank { file: \"run\", number: 1099511627775 }  locus|unrank|run|1099511627775\n",
     "command  locus|batch|--budget|--workers|65\n",
     "refused  locus|merge|run|é|f-|g.toml|f-|+|0|g.toml|help|-\n",
@@ -267,6 +267,10 @@ pub(crate) const ALL_5: &str = concat!(
     "Merge { files: [\"g.toml\", \"f-\", \"run\"] }  locus|merge|g.toml|f-|run\n",
     "Cross { files: [\"run\", \"f-\", \"run\", \"g.toml\", \"run\", \"f\", \"g.toml\"], workers: 1 }  locus|cross|run|f-|run|g.toml|run|f|g.toml\n",
     "command  locus|resume|--workers=++1|a=b|help|--budget=2\n",
+);
+
+/// Of all commands.
+pub(crate) const ALL_6: &str = concat!(
     "Cross { files: [\"f\", \"run\", \"g.toml\", \"+\", \"g.toml\", \"f\", \"f\", \"run\"], workers: 64 }  locus|cross|f|run|--workers|64|g.toml|+|g.toml|f|f|run\n",
     "Run(RunRequest { file: \"+\", workers: 2, budget: 1099511627776, stop_file: None })  locus|run|+|--workers|2\n",
     "Run(RunRequest { file: \"+\", workers: 1, budget: 1099511627775, stop_file: Some(\"0\") })  locus|run|--stop-file=0|--budget|001099511627775|+\n",
@@ -317,70 +321,6 @@ pub(crate) const ALL_5: &str = concat!(
     "Merge { files: [\"g.toml\", \"f-\", \"help\", \"a=b\", \"a=b\", \"g.toml\", \"help\", \"a=b\", \"+\"] }  locus|merge|g.toml|f-|help|a=b|a=b|g.toml|help|a=b|+\n",
     "Unrank { file: \"g.toml\", number: 1 }  locus|unrank|g.toml|1\n",
     "Rank { file: \"g.toml\", text: \"0\" }  locus|rank|g.toml|0\n",
-);
-
-/// Of all commands.
-pub(crate) const ALL_6: &str = concat!(
-    "command  locus|split|--help|g.toml|64|x\n",
-    "command  locus|trees|--workers|63|run|1099511627776\n",
-    "Merge { files: [\"g.toml\", \"f-\", \"a=b\", \"é\", \"0\"] }  locus|merge|g.toml|f-|a=b|é|0\n",
-    "Rank { file: \"a=b\", text: \"f\" }  locus|rank|a=b|f\n",
-    "Rank { file: \"é\", text: \"é\" }  locus|rank|é|é\n",
-    "command  locus|make|2147483647|f\n",
-    "Cross { files: [\"run\", \"f-\", \"run\", \"f-\"], workers: 1 }  locus|cross|run|f-|run|f-\n",
-    "Run(RunRequest { file: \"f-\", workers: 1, budget: 1099511627776, stop_file: None })  locus|run|f-\n",
-    "Soak { number: 4294967294, workers: 1 }  locus|soak|+4294967294\n",
-    "command  locus|run|--stop-file=g.toml|+|0|--workers=0x1|--budget|+1\n",
-    "command  locus|soak|--stop-file|--workers=0064|18446744073709551615\n",
-    "Split { file: \"run\", parts: 1, part: 31, workers: 64 }  locus|split|run|1|+31|--workers=64\n",
-    "refused  locus|batch|run|--stop-file=\n",
-    "Cross { files: [\"0\", \"é\", \"help\", \"0\"], workers: 63 }  locus|cross|0|é|help|--workers=63|0\n",
-    "Resume(RunRequest { file: \"f-\", workers: 1, budget: 1099511627776, stop_file: Some(\"f-\") })  locus|resume|f-|--budget|1099511627776|--stop-file=f-\n",
-    "Run(RunRequest { file: \"run\", workers: 1, budget: 1099511627776, stop_file: Some(\"a=b\") })  locus|run|run|--stop-file=a=b\n",
-    "command  locus|run|--stop-file=f|a=b|--budget=1099511627775|--workers|+64|--budget=549755813888\n",
-    "command  locus|batch|+|--other=1|é\n",
-    "Merge { files: [\"é\", \"é\"] }  locus|merge|é|é\n",
-    "Unrank { file: \"help\", number: 0 }  locus|unrank|help|0\n",
-    "command  locus|batch|--workers=0063|--help|é\n",
-    "command  locus|split|f-|--workers=+64|+32|1.\n",
-    "Trees { file: \"a=b\", low: 1099511627775, high: 1, workers: 1 }  locus|trees|a=b|1099511627775|1\n",
-    "Resume(RunRequest { file: \"f-\", workers: 1, budget: 1099511627776, stop_file: None })  locus|resume|f-\n",
-    "command  locus|trees|--workers=32|help|1099511627776|1099511627775|g.toml\n",
-    "Unrank { file: \"0\", number: 1099511627775 }  locus|unrank|0|1099511627775\n",
-    "Rank { file: \"run\", text: \"run\" }  locus|rank|run|run\n",
-    "Run(RunRequest { file: \"f\", workers: 1, budget: 549755813888, stop_file: None })  locus|run|--budget|549755813888|f\n",
-    "command  locus|soak|-w=3|2147483647\n",
-    "Cross { files: [\"g.toml\", \"g.toml\", \"run\"], workers: 64 }  locus|cross|--workers|64|g.toml|g.toml|run\n",
-    "Soak { number: 0, workers: 2 }  locus|soak|0|--workers=2\n",
-    "Merge { files: [\"é\", \"0\", \"a=b\", \"f-\"] }  locus|merge|é|0|a=b|f-\n",
-    "Rank { file: \"f\", text: \"0\" }  locus|rank|f|0\n",
-    "Resume(RunRequest { file: \"0\", workers: 32, budget: 1099511627776, stop_file: Some(\"a=b\") })  locus|resume|0|--workers=+32|--stop-file=a=b\n",
-    "command  locus|unrank|help|1099511627776|--workers\n",
-    "command  locus|trees|help|18446744073709551616|0x1\n",
-    "Cross { files: [\"help\", \"a=b\", \"f-\", \"+\", \"+\", \"g.toml\"], workers: 64 }  locus|cross|help|--workers|64|a=b|f-|+|+|g.toml\n",
-    "Rank { file: \"g.toml\", text: \"f\" }  locus|rank|g.toml|f\n",
-    "refused  locus|batch|--workers=|help\n",
-    "command  locus|trees|--workers|f|--workers=0032|001099511627775|+1\n",
-    "Rank { file: \"g.toml\", text: \"a=b\" }  locus|rank|g.toml|a=b\n",
-    "command  locus|batch|--workers=63|g.toml|-5\n",
-    "refused  locus||+|--stop-file|f|--budget|549755813888\n",
-    "command  locus|run|g.toml|--workers|1.|--workers=1|--stop-file=help\n",
-    "command  locus|make\n",
-    "Batch { list: \"help\", workers: 1 }  locus|batch|help\n",
-    "Rank { file: \"f-\", text: \"f-\" }  locus|rank|f-|f-\n",
-    "Batch { list: \"a=b\", workers: 63 }  locus|batch|a=b|--workers=63\n",
-    "Split { file: \"a=b\", parts: 64, part: 1, workers: 63 }  locus|split|a=b|--workers|+63|+64|1\n",
-    "Split { file: \"run\", parts: 63, part: 1, workers: 1 }  locus|split|run|+63|+1\n",
-    "Unrank { file: \"help\", number: 1099511627775 }  locus|unrank|help|001099511627775\n",
-    "Split { file: \"f\", parts: 2, part: 62, workers: 32 }  locus|split|f|+2|--workers|32|62\n",
-    "refused  locus|rank|help|--|run\n",
-    "command  locus|soak|-x|001|--workers=+2\n",
-    "command  locus|split|f|--workers|2|1_0|1\n",
-    "Split { file: \"+\", parts: 63, part: 1, workers: 32 }  locus|split|+|63|1|--workers=+32\n",
-    "command  locus|soak|+4294967294|help\n",
-    "command  locus|merge|--workers|a=b|f-\n",
-    "command  locus|merge|f|é|-x|g.toml|g.toml\n",
-    "Merge { files: [\"f-\", \"g.toml\", \"f-\", \"+\", \"run\", \"f-\"] }  locus|merge|f-|g.toml|f-|+|run|f-\n",
 );
 
 /// Of the commands that are built.
