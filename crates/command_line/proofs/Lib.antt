@@ -1,4 +1,5 @@
 mod Answers
+pub mod Built
 pub mod Consequences
 mod Names
 mod Rules

@@ -23,7 +23,7 @@ and_both false b e = absurd (false≢true e)
 
 -- ---- as many words as there are slots
 
-one_word : (s : Slot) (ws : List Text) → (nat_le 1 (length ws) && plains_fit (s ∷ []) ws) ≡ true → (a : Text) × (ws ≡ a ∷ []) × (fits s.limit a ≡ true)
+pub one_word : (s : Slot) (ws : List Text) → (nat_le 1 (length ws) && plains_fit (s ∷ []) ws) ≡ true → (a : Text) × (ws ≡ a ∷ []) × (fits s.limit a ≡ true)
 one_word s [] e = absurd (false≢true e)
 one_word s (a ∷ []) e = (a, refl, (and_both (fits s.limit a) _ e).0)
 one_word s (a ∷ b ∷ ws) e =
