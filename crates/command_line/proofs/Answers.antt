@@ -1,13 +1,13 @@
 -- What is read of words that are given to a command.
-use Rattle.std.proofs.Common.{◌≡◌, ◌≢◌, ◌<◌, ℕ, zero, suc, List, [], ◌∷◌, map, Option, Some, None, option_map, Bool, true, false, ◌&&◌, refl, sym, ap, ap₂, subst, ◌∙◌, arith, length}
+use Rattle.std.proofs.Common.{◌≡◌, ◌≢◌, zero, suc, List, [], ◌∷◌, map, Option, Some, None, option_map, Bool, true, false, ◌&&◌, refl, sym, ap, subst, ◌∙◌, arith}
 use Rattle.std.proofs.lemmas.Bool.{false≢true}
 use Rattle.std.proofs.lemmas.Option.{same_Some}
 use Rattle.std.specs.List.{Contains}
 use Rattle.clap.specs.Walk.{Text}
 use Rattle.command_words.specs.declared.given.Given.{Given}
 use Rattle.command_words.specs.Usages.{Usage}
-use Rattle.command_words.specs.Words.{Item, are_options, are_plains, options_in, plains_in}
-use Rattle.command_words.specs.Taken.{Holds, IsGiven, IsUse}
+use Rattle.command_words.specs.Words.{are_plains, plains_in}
+use Rattle.command_words.specs.Taken.{IsGiven, IsUse}
 use Rattle.command_line.specs.declared.command.Command.{Command}
 use Rattle.command_line.specs.declared.table.Commands.{Commands}
 use Rattle.command_line.specs.Asked.{Asks, values_of}

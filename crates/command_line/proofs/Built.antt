@@ -1,15 +1,15 @@
 -- The words that the program takes today, as they stand in its formats.
-use Rattle.std.proofs.Common.{◌≡◌, ◌<◌, ℕ, zero, suc, List, [], ◌∷◌, Some, None, Bool, true, false, ◌&&◌, codes, refl, sym, ap, subst, ◌∙◌, arith, length}
+use Rattle.std.proofs.Common.{◌≡◌, zero, suc, List, [], ◌∷◌, Some, None, Bool, true, false, ◌&&◌, codes, refl, sym, ap, subst, ◌∙◌, arith}
 use Rattle.std.proofs.lemmas.Bool.{false≢true}
 use Rattle.std.proofs.lemmas.Option.{same_Some}
 use Rattle.std.specs.List.{Contains, list_all}
 use Rattle.clap.specs.Walk.{Text}
 use Rattle.command_words.specs.Usages.{is_plain}
-use Rattle.command_words.specs.Words.{Item, plain, option, Says, nothing, bare_word, apart, joined, are_options, are_plains, option_fits, options_in, plains_in, value_named}
+use Rattle.command_words.specs.Words.{Item, plain, Says, nothing, bare_word, apart, joined, are_options, are_plains, option_fits, options_in, plains_in, value_named}
 use Rattle.command_words.specs.Taken.{IsUse}
 use Rattle.command_line.specs.declared.table.Commands.TheVariants as commands
 use Rattle.command_line.specs.Asked.{Asks, values_of}
-use Rattle.command_line.specs.Requests.{Options, Request, Sum, run, run_asked}
+use Rattle.command_line.specs.Requests.{Options, Request, run, run_asked}
 use Rattle.command_line.specs.Table.{CommandRule, file, rules_of, run_alone, table_of_commands}
 use Rattle.command_line.proofs.Rules.{one_word}
 

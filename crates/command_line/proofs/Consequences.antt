@@ -1,5 +1,5 @@
 -- What follows of what words ask.
-use Rattle.std.proofs.Common.{◌≡◌, ◌<◌, ℕ, zero, suc, List, [], ◌∷◌, map, Option, Some, refl, sym, ap, ap₂, subst, ◌∙◌, arith, length}
+use Rattle.std.proofs.Common.{◌≡◌, List, Some, sym, ap₂, ◌∙◌}
 use Rattle.std.proofs.lemmas.Option.{same_Some}
 use Rattle.clap.specs.Walk.{Text}
 use Rattle.command_words.specs.Usages.{Usage}
@@ -9,7 +9,6 @@ use Rattle.command_line.specs.declared.table.Commands.{Commands}
 use Rattle.command_line.specs.Asked.{Asks, values_of}
 use Rattle.command_line.specs.Given.{request_named}
 use Rattle.command_line.specs.Requests.{Request}
-use Rattle.command_line.specs.Table.{CommandRule}
 use Rattle.command_line.proofs.Rules.{answered}
 use Rattle.command_line.proofs.Sound.{sound}
 

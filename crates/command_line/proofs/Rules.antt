@@ -1,13 +1,11 @@
 -- Each command asks for something, whatever it may be given, and is found by its name.
-use Rattle.std.proofs.Common.{◌≡◌, ◌<◌, ℕ, zero, suc, List, [], ◌∷◌, map, Option, Some, None, option_map, Bool, true, false, ◌&&◌, refl, sym, subst, arith, codes, length}
+use Rattle.std.proofs.Common.{◌≡◌, zero, suc, List, [], ◌∷◌, Some, Bool, true, false, ◌&&◌, refl, subst, arith, codes, length}
 use Rattle.std.proofs.lemmas.Bool.{false≢true}
-use Rattle.std.specs.Prelude.{nat_le, option_and_then, slice_index_or}
+use Rattle.std.specs.Prelude.{nat_le}
 use Rattle.std.specs.List.{Contains}
 use Rattle.clap.specs.Walk.{Text}
-use Rattle.command_words.specs.declared.table.Limit.{Limit}
-use Rattle.command_words.specs.declared.table.Limit.TheVariants as limit
 use Rattle.command_words.specs.Usages.{Slot, fits}
-use Rattle.command_words.specs.Words.{are_plains, number_in, plains_fit}
+use Rattle.command_words.specs.Words.{are_plains, plains_fit}
 use Rattle.command_words.proofs.Consequences.{number_within}
 use Rattle.command_line.specs.declared.table.Commands.{Commands}
 use Rattle.command_line.specs.declared.table.Commands.TheVariants as commands

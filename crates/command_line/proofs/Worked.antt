@@ -1,6 +1,5 @@
 -- Worked lists of words, with what they ask.
-use Rattle.std.proofs.Common.{◌≡◌, List, [], ◌∷◌, Some, None, codes, refl, arith}
-use Rattle.clap.specs.Walk.{Text}
+use Rattle.std.proofs.Common.{[], ◌∷◌, Some, None, codes, refl, arith}
 use Rattle.command_words.specs.Words.{plain, option, nothing, bare_word, apart, joined}
 use Rattle.command_line.specs.declared.table.Commands.TheVariants as commands
 use Rattle.command_line.specs.Asked.{Asks}

@@ -1,5 +1,5 @@
 -- What words ask of the program.
-use Rattle.std.specs.Prelude.{◌≡◌, List, Option, Some, Result, Ok, Err}
+use Rattle.std.specs.Prelude.{◌≡◌, List, Some, Result, Ok, Err}
 use Rattle.std.specs.List.{Contains}
 use Rattle.clap.specs.Walk.{Text}
 use Rattle.command_line.specs.declared.command.Command.{Command}

@@ -1,4 +1,4 @@
-use Rattle.std.proofs.Common.{◌≡◌, refl}
+use Rattle.std.proofs.Common.{refl}
 use Rattle.command_line.proofs.Names.{other}
 use Rattle.command_line.proofs.requests.request.Goals as goal
 
