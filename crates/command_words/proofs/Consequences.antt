@@ -1,5 +1,5 @@
 -- What follows of the words that are taken.
-use Rattle.std.proofs.Common.{◌≡◌, ◌≤◌, ◌<◌, ◌^◌, ℕ, List, ◌∷◌, drop, Some, Bool, true, false, ◌&&◌, slice_get, sym, ap, ◌∙◌, refl, arith}
+use Rattle.std.proofs.Common.{◌≡◌, ◌≤◌, ◌<◌, ◌^◌, ℕ, List, ◌∷◌, drop, Some, true, slice_get, sym, ap, ◌∙◌, refl, arith}
 use Rattle.std.proofs.lemmas.Option.{same_Some}
 use Rattle.std.proofs.lemmas.Bool.{leb-true, ltb-true, le-leb}
 use Rattle.std.specs.Prelude.{nat_le, nat_lt}

@@ -78,8 +78,7 @@ fn subcommand<'a>(alloc: Global, row: &'a CommandRow<'a>) -> Result<Command<'a>,
     ensures shape { IfOk result (λ c. shape_of c ≡ shape_for (usage_of row.now)) }
     ensures local { IfOk result (λ c. (out-Command c).has_globals ≡ false) }
 {
-    let command = Command::new(alloc, row.name)
-        .override_usage(row.usage);
+    let command = Command::new(alloc, row.name).override_usage(row.usage);
     let command = with_plains(alloc, command, row.plains, row.least)?;
     with_options(alloc, command, row.options)
 }
