@@ -12,6 +12,3 @@ pub use given::{Given, GivenOption};
 pub use numbers::number;
 pub use reading::{WordsError, read};
 pub use table::{Argument, CommandRow, Limit, Program};
-
-#[cfg(test)]
-mod tests;
