@@ -1,0 +1,17 @@
+use Rattle.std.proofs.Common.{ap, subst, ◌∙◌, map, string_bytes}
+use Rattle.command_words.specs.Usages.{is_sound_table}
+use Rattle.command_words.specs.Taken.{IsGiven}
+use Rattle.command_line.proofs.Answers.{asks, some}
+use Rattle.command_line.proofs.Sound.{sound}
+use Rattle.command_line.proofs.reading.read.Goals as goal
+
+pub read-requires : goal.read-requires
+read-requires c = record { sound = ap is_sound_table c.program.ensures ∙ sound c.args.commands }
+
+pub unreachable-requires : goal.unreachable-requires
+unreachable-requires c =
+    some c.args.commands (map string_bytes c.args.words.now) c.in_ok-given.given c.request.result (subst (λ t. IsGiven t (map string_bytes c.args.words.now) c.in_ok-given.given) c.program.ensures c.in_ok-given.ensures.answer) c.request.ensures c.in-None.is
+
+pub returns : goal.returns
+returns c =
+    asks c.args.commands (map string_bytes c.args.words.now) c.in_ok-given.given c.request.result c.in-Some.command (subst (λ t. IsGiven t (map string_bytes c.args.words.now) c.in_ok-given.given) c.program.ensures c.in_ok-given.ensures.answer) c.request.ensures c.in-Some.is

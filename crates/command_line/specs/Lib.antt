@@ -1,0 +1,4 @@
+pub mod Requests
+pub mod Table
+pub mod Asked
+pub mod Given

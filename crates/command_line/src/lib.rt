@@ -1,0 +1,17 @@
+//! The command line of the program: its commands, and what words ask of it.
+#![tactic(auto)]
+
+mod arguments;
+mod command;
+mod files;
+mod reading;
+mod requests;
+mod table;
+
+pub use command::{Command, RunRequest};
+pub use command_words::WordsError;
+pub use reading::read;
+pub use table::Commands;
+
+#[cfg(test)]
+mod tests;

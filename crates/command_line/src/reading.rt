@@ -1,0 +1,30 @@
+//! Reading the words of the command line.
+ghost use Rattle.std.specs.Prelude.{map, string_bytes};
+ghost use Rattle.command_line.specs.Asked.{IsReading};
+
+use crate::command::Command;
+use crate::requests::request;
+use crate::table::Commands;
+use command_words::WordsError;
+use std::alloc::Global;
+
+/// Reads the words of the command line: what they ask, by the table of these commands.
+///
+/// # Errors
+///
+/// `Refused` exactly if a word after the first is empty, `-`, `--`, or an option with nothing after its `=`.
+/// `ByCommand` with the text to print if there is no such word and the words are no use of one of the commands.
+/// `NoMemory` if the system gave no memory.
+pub fn read<'a>(
+    alloc: Global,
+    commands: Commands,
+    words: &'a [String],
+) -> Result<Command<'a>, WordsError>
+    ensures { IsReading commands (map string_bytes words.now) result }
+{
+    let given = command_words::read(alloc, commands.program(), words)?;
+    match request(given) {
+        Some(command) => Ok(command),
+        None => unreachable!(),
+    }
+}

@@ -1,0 +1,16 @@
+mod Args
+mod Bools
+pub mod Building
+pub mod Consequences
+mod Free
+mod Items
+pub mod Law
+mod Matched
+mod ReadNumbers
+mod Rows
+mod Said
+mod Texts
+mod Top
+mod Uses
+pub mod Values
+mod Walks

@@ -1,0 +1,5 @@
+pub mod Usages
+pub mod Words
+pub mod Taken
+pub mod Rows
+pub mod Clap
