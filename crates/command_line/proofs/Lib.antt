@@ -3,5 +3,5 @@ pub mod Built
 pub mod Consequences
 mod Names
 mod Rules
-mod Sound
+pub mod Sound
 mod Worked

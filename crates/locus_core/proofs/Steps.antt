@@ -12,7 +12,7 @@ use Rattle.problem_toml.specs.declared.error.ProblemError.{ProblemError}
 use Rattle.problem_toml.specs.declared.error.ProblemError.TheVariants.{NoMemory}
 use Rattle.locus_core.specs.Words.{file_named}
 use Rattle.locus_core.specs.Outside.{Unchanged, Takes}
-use Rattle.locus_core.specs.Steps.{loaded, Loads, Reports, Prints, whole, broken, Refuses, refused, unheard}
+use Rattle.locus_core.specs.Steps.{loaded, Loads, Reports, Prints, whole, broken, Refuses, refused, unheard, RefusesWords, nameless, unread}
 use Rattle.locus_core.specs.Ends as ends
 use Rattle.locus_core.specs.Ends.{Run, Begins, Ends}
 
@@ -112,3 +112,10 @@ printed_by run name bytes status text answer w h s r (broken is out err) =
       out = out;
       err = err;
     })
+
+-- ---- the words are refused
+pub words_by : (run : Run) (answer : ℕ) → Unchanged run.files → Unchanged run.out → RefusesWords run.words run.err answer → Ends run answer
+words_by run answer files out (nameless text is none look told) =
+    ends.words_refused is (record { words = none; text = text; first_look = look; files = files; out = out; err = told })
+words_by run answer files out (unread is some told) =
+    ends.want_of_memory is (record { words = some; files = files; out = out; err = told })

@@ -8,6 +8,7 @@ use Rattle.report.specs.Texts.{done_text, no_inverse_text}
 use Rattle.report.specs.Report.{IsReport, done_status}
 use Rattle.problem_toml.specs.Reading.{reading}
 use Rattle.problem_toml.specs.declared.error.ProblemError.{ProblemError}
+use Rattle.command_words.specs.Words.{AreRefusedFirst}
 use Rattle.locus_core.specs.Words.{file_named}
 use Rattle.locus_core.specs.Texts.{refused_line}
 use Rattle.locus_core.specs.Outside.{Change, Unchanged, FilesState, SinkState, Holds, HasFaultAt, Takes, BreaksOff, Tells}
@@ -28,12 +29,14 @@ pub record Begins (run : Run) (problem : ProblemView) : Type 0 where
   pub reads : reading bytes ≡ Ok problem
   pub files : Unchanged run.files
 
--- The words name no file.
+-- The words name no file. A text is told, which is `words refused` if a word is refused at the first look.
 pub record WordsRefused (run : Run) : Type 0 where
   pub words : file_named run.words ≡ None
+  pub text : List ℕ
+  pub first_look : AreRefusedFirst run.words → text ≡ codes "words refused\n"
   pub files : Unchanged run.files
   pub out : Unchanged run.out
-  pub err : Tells run.err (codes "words refused\n")
+  pub err : Tells run.err text
 
 -- The file that the words name was not read: the files counted a fault at its name.
 pub record ReadFault (run : Run) : Type 0 where

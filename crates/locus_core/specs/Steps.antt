@@ -1,11 +1,13 @@
 -- The steps of a run.
-use Rattle.std.specs.Prelude.{◌≡◌, ◌≢◌, ℕ, List, take, Some, Ok, IfSome, option_map, codes}
+use Rattle.std.specs.Prelude.{◌≡◌, ◌≢◌, ℕ, List, take, Some, None, Ok, IfSome, IsSome, option_map, codes}
+use Rattle.command_words.specs.Words.{AreRefusedFirst}
 use Rattle.locus_io.specs.Content.{file_of}
 use Rattle.problem.specs.Rules.{ProblemView}
 use Rattle.report.specs.Report.{IsReport}
 use Rattle.problem_toml.specs.Reading.{reading}
 use Rattle.problem_toml.specs.declared.error.ProblemError.{ProblemError}
 use Rattle.problem_toml.specs.declared.error.ProblemError.TheVariants.{NoMemory}
+use Rattle.locus_core.specs.Words.{file_named}
 use Rattle.locus_core.specs.Texts.{refused_line}
 use Rattle.locus_core.specs.Outside.{Change, Unchanged, FilesState, SinkState, Takes, BreaksOff, Tells}
 
@@ -32,3 +34,9 @@ pub data Prints (out err : Change SinkState) (status : ℕ) (text : List ℕ) (a
 pub data Refuses (error : ProblemError) (err : Change SinkState) (answer : ℕ) : Type 0 where
   refused : answer ≡ 3 → error ≢ NoMemory → Tells err (refused_line error) → Refuses error err answer
   unheard : answer ≡ 9 → Tells err (codes "want of memory\n") → Refuses error err answer
+
+-- a text is told with status 2 of words that name no file, or want of memory with status 9
+pub data RefusesWords (words : List (List ℕ)) (err : Change SinkState) (answer : ℕ) : Type 0 where
+  nameless : (text : List ℕ) → answer ≡ 2 → file_named words ≡ None → (AreRefusedFirst words → text ≡ codes "words refused\n") → Tells err text
+      → RefusesWords words err answer
+  unread : answer ≡ 9 → IsSome (file_named words) → Tells err (codes "want of memory\n") → RefusesWords words err answer

@@ -1,11 +1,7 @@
 -- The words of the command line.
-use Rattle.std.specs.Prelude.{ℕ, List, [], ◌∷◌, Option, Some, None, Bool, false, ◌==◌, not, codes, if◌then◌else◌}
+use Rattle.std.specs.Prelude.{ℕ, List, [], ◌∷◌, Option, Some, None, codes, if◌then◌else◌}
 use Rattle.std.specs.Str.{bytes_eq}
-
--- a plain word is not empty and does not begin with `-` (45)
-abbrev pub is_plain : List ℕ → Bool
-is_plain [] = false
-is_plain (first ∷ rest) = not (first == 45)
+use Rattle.command_words.specs.Usages.{is_plain}
 
 -- the name of the file, where the words are any first word, `run` and a plain word
 abbrev pub file_named : List (List ℕ) → Option (List ℕ)

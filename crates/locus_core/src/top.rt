@@ -7,12 +7,14 @@ ghost use Rattle.problem_toml.specs.Reading.{reading};
 ghost use Rattle.locus_core.specs.Words.{file_named};
 ghost use Rattle.locus_core.specs.Texts.{refused_line};
 ghost use Rattle.locus_core.specs.Outside.{Unchanged, files_change, sink_change, HasFaultAt, Tells};
-ghost use Rattle.locus_core.specs.Steps.{Loads, Reports, Prints, Refuses};
+ghost use Rattle.command_words.specs.Words.{AreRefusedFirst};
+ghost use Rattle.locus_core.specs.Steps.{Loads, Reports, Prints, Refuses, RefusesWords};
 ghost use Rattle.locus_core.specs.Ends.{Ends};
 ghost use Rattle.locus_core.specs.Statuses.{IsSumStatus, IsReadStatus, IsStatus, ForFile, Reads, IsProblem, IsStatusOf};
 
 use crate::outcome::outcome_report;
-use crate::words::file_name;
+use crate::words::{file_name, name_a_file};
+use command_line::WordsError as Refusal;
 use locus_io::{Failed, Files, LoadError, Sink, WordsError, put_all};
 use problem_toml::{ProblemError, read, refusal_line};
 use report::Report;
@@ -106,8 +108,9 @@ fn end<F: Files, O: Sink, E: Sink>(
       err = sink_change E.written E.is_flushed E.faults err.old err.new;
     }) result.status }
 {
-    let Some(name) = file_name(words) else {
-        return refuse(err, 2, b"words refused\n");
+    let name = match file_name(alloc, words) {
+        Ok(name) => name,
+        Err(error) => return refuse_read_words(err, words, error),
     };
     let bytes = match load(alloc, files, name) {
         Ok(bytes) => bytes,
@@ -117,6 +120,21 @@ fn end<F: Files, O: Sink, E: Sink>(
     match run(alloc, bytes.as_slice()) {
         Ok(report) => print(out, err, report),
         Err(error) => refuse_problem(alloc, err, &error),
+    }
+}
+
+/// Ends a run whose words name no file, or were not read for want of memory: the words alone tell which it is.
+fn refuse_read_words<E: Sink>(err: &mut E, words: &[String], error: Refusal) -> Answer
+    requires none { error ≢ Refusal.NoMemory → file_named (map string_bytes words.now) ≡ None }
+    requires first_look { AreRefusedFirst (map string_bytes words.now) → error ≡ Refusal.Refused }
+    ensures { RefusesWords (map string_bytes words.now) (sink_change E.written E.is_flushed E.faults err.old err.new)
+        result.status }
+{
+    match error {
+        Refusal::ByCommand(text) => refuse(err, 2, text.as_bytes()),
+        Refusal::NoMemory if name_a_file(words) => refuse(err, 9, b"want of memory\n"),
+        Refusal::NoMemory => refuse(err, 2, b"words refused\n"),
+        Refusal::Refused => refuse(err, 2, b"words refused\n"),
     }
 }
 
