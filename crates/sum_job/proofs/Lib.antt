@@ -1,0 +1,4 @@
+pub mod JobLaws
+pub mod Places
+pub mod PartLaws
+pub mod Orders
