@@ -2,3 +2,4 @@ pub mod JobLaws
 pub mod Places
 pub mod PartLaws
 pub mod Orders
+pub mod Together

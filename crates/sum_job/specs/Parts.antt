@@ -53,6 +53,10 @@ sum_of_blocks job blocks terms = sum_of_fractions (map (block_sum job terms) blo
 abbrev pub AreReduced : ProblemView → List ℕ → Type 0
 AreReduced p residues = (place : ℕ) → place < places_of p → slice_index residues place < modulus_at p.moduli place
 
+-- the sum of a part for an integral and a modulus
+abbrev pub sum_at : ℕ → PartSum → ℕ
+sum_at place part = slice_index part.sums place
+
 -- a part may be handed to a worker: there are 64 sums, of which the used ones are residues
 pub record IsReadyFor (p : ProblemView) (part : PartSum) : Type 0 where
   pub places : length part.sums ≡ 64

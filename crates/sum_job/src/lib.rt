@@ -11,7 +11,7 @@ mod sums;
 
 pub use job::LocusJob;
 pub use part::PartSum;
-pub use sums::add_residues;
+pub use sums::{add_parts, add_residues};
 
 #[cfg(test)]
 mod tests;
