@@ -25,8 +25,7 @@ pub empty_part : (job : JobView) (part : PartSum) → KeepsJob job → part.sums
 empty_part job part rules sums least =
     let long : length part.sums ≡ 64 = ap length sums ∙ length-replicate {A = ℕ} 64 0 in
     let zero_at : (place : ℕ) → slice_index part.sums place ≡ 0 = λ place. ap (λ xs. slice_index xs place) sums ∙ zeros 64 place in
-    let most = at_most_64 job.problem rules in
-    (
+    let most = at_most_64 job.problem rules in (
       record {
         places = long;
         reduced = λ place within. let above = modulus_above job.problem rules place in let z = zero_at place in omega arith;

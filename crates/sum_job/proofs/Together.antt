@@ -44,12 +44,12 @@ same_counts (x ∷ xs) ys h =
     let at_x = h x in
     let s = split_at x ys (omega arith) in
     let rest : IsPermutation xs (s.before ++ s.after) =
-        same_counts xs (s.before ++ s.after)
-        (λ b. let whole = h b in
-        let parts = ap (times b) s.is in
-        let left = times-append b s.before (x ∷ s.after) in
-        let right = times-append b s.before s.after in
-        omega arith) in
+    same_counts xs (s.before ++ s.after)
+    (λ b. let whole = h b in
+    let parts = ap (times b) s.is in
+    let left = times-append b s.before (x ∷ s.after) in
+    let right = times-append b s.before s.after in
+    omega arith) in
     subst (IsPermutation (x ∷ xs)) (sym s.is)
     (IsPermutation-trans _ _ _ (IsPermutation-cons x _ _ rest) (IsPermutation-sym _ _ (IsPermutation-middle s.before x s.after)))
 
