@@ -11,7 +11,7 @@ use Rattle.localisation.proofs.AllNumbers.{residues_of_all}
 use Rattle.worker_pool.proofs.Ends.{whole_again}
 use Rattle.sum_job.specs.Parts.{block_count}
 use Rattle.rounds.specs.Rounds.{budget_end, reached, blocks_of_rounds, AreRounds}
-use Rattle.rounds.specs.Outcomes.{SumView, IsSummed, IsRoundSum, IsOutcome, IsEarly, IsProgress, KeepsTruth, ended}
+use Rattle.rounds.specs.Outcomes.{SumView, IsSummed, IsRoundSum, IsOutcome, IsEarly, IsOfProblem, IsProgress, KeepsTruth, ended}
 use Rattle.rounds.specs.declared.round.BadTree.{BadTree}
 use Rattle.rounds.specs.declared.progress.Progress.{Progress}
 use Rattle.locus_io.specs.Causes.{Stayed}
@@ -179,6 +179,11 @@ ends s budget workers count at sums shares o e is most later r many = record {
 pub truth_of : (s : SumView) (budget workers : ℕ) (p : Progress) → KeepsRules s.problem → s.next ≤ count_of s.problem → IsProgress s budget workers p
     → KeepsTruth s p.outcome
 truth_of s budget workers p rules most progress = keeps_truth s budget progress.rounds p.outcome rules most progress.outcome
+
+pub of_problem : (s : SumView) (budget k : ℕ) (o : Outcome) → IsOutcome s budget k o → IsOfProblem s.problem o
+of_problem s budget k (Done residues) h = h.summed.are_residues
+of_problem s budget k (Paused next residues) h = let left = h.left in (omega arith, h.summed.are_residues)
+of_problem s budget k (NoInverse number modulus) h = let below = h.least.below in (omega arith, h.first.place)
 
 pub no_shares : (n : ℕ) → sum (replicate n 0) ≡ 0
 no_shares zero = refl

@@ -1,5 +1,5 @@
 -- What a call that sums the trees of a problem from a number on comes to.
-use Rattle.std.specs.Prelude.{◌≡◌, ℕ, suc, ◌+◌, ◌<◌, ◌==◌, if◌then◌else◌, List, Option, Some, None, length, sum}
+use Rattle.std.specs.Prelude.{◌≡◌, ℕ, suc, ◌+◌, ◌<◌, ◌≤◌, ◌==◌, if◌then◌else◌, List, Option, Some, None, length, sum}
 use Rattle.localisation.specs.Agreement.{NoneBad, IsLeastBad, IsFirstBad}
 use Rattle.problem.specs.Rules.{ProblemView}
 use Rattle.problem.specs.Sums.{count_of, is_bad_of, is_bad_modulo, ArePartialSums, AreKontsevichSums}
@@ -92,3 +92,10 @@ abbrev pub KeepsTruth : SumView → Outcome → Type 0
 KeepsTruth s (Done residues) = IsTrueSum s → AreKontsevichSums s.problem residues
 KeepsTruth s (Paused next residues) = IsTrueSum s → IsTrueSum (record s { next = next; residues = residues })
 KeepsTruth s (NoInverse number modulus) = Unit {0}
+
+-- What an outcome names is of the problem: there is a residue for each integral and modulus, below its modulus; the next
+-- number is at most the number of trees; a bad tree has a number, and its modulus is one of the problem.
+abbrev pub IsOfProblem : ProblemView → Outcome → Type 0
+IsOfProblem p (Done residues) = AreResidues p residues
+IsOfProblem p (Paused next residues) = (next ≤ count_of p) × AreResidues p residues
+IsOfProblem p (NoInverse number modulus) = (number < count_of p) × (modulus < length p.moduli)

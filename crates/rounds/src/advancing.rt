@@ -5,7 +5,7 @@ ghost use Rattle.problem.specs.Problems.{view as problem_view};
 ghost use Rattle.problem.specs.Sums.{count_of};
 ghost use Rattle.checkpoint.specs.States.{AreResidues};
 ghost use Rattle.locus_io.specs.Causes.{RoseBy, Stayed};
-ghost use Rattle.rounds.specs.Outcomes.{sum_of, ended, IsEarly, IsProgress, KeepsTruth};
+ghost use Rattle.rounds.specs.Outcomes.{sum_of, ended, IsEarly, IsOfProblem, IsProgress, KeepsTruth};
 ghost use Rattle.rounds.specs.Chains.{IsChain, IsEndOfChain};
 
 use crate::parts::new_parts;
@@ -53,6 +53,8 @@ pub fn advance_problem<R: Threads + Sync, S: Stopper, G: Gate>(
     ensures progress { IfOk result (IsProgress
         (record { problem = problem_view problem.now; next = next; residues = residues.now }) budget workers) }
 
+    ensures of_problem { IfOk result (λ progress. IsOfProblem (problem_view problem.now) progress.outcome) }
+
     // True sums stay true, and at the end they are Kontsevich's.
     ensures truth { IfOk result (λ progress. KeepsTruth
         (record { problem = problem_view problem.now; next = next; residues = residues.now }) progress.outcome) }
@@ -64,6 +66,82 @@ pub fn advance_problem<R: Threads + Sync, S: Stopper, G: Gate>(
 
     // It pauses before the budget is used up only if a stop was asked for under the name. Else it leaves the stopper's
     // count and last name.
+    ensures stopped { IfOk result (λ progress. IsEarly
+        (record { problem = problem_view problem.now; next = next; residues = residues.now }) budget progress.outcome
+        → IfSome stop_name.entry (λ name. RoseBy (S.stops stopper.old) (S.stops stopper.new) name.now (S.last_stop stopper.new))) }
+    ensures kept { IfOk result (λ progress. ¬ IsEarly
+        (record { problem = problem_view problem.now; next = next; residues = residues.now }) budget progress.outcome
+        → Stayed (S.stops stopper.old) (S.stops stopper.new) (S.last_stop stopper.old) (S.last_stop stopper.new)) }
+    ensures refused { OnErr result
+        (Stayed (S.stops stopper.old) (S.stops stopper.new) (S.last_stop stopper.old) (S.last_stop stopper.new)) }
+{
+    run_rounds(
+        rt, alloc, problem, next, residues, budget, workers, stop_name, gate, stopper,
+    )
+}
+
+/// Does the same from a state: sums the trees of its problem from its next number on.
+///
+/// # Errors
+/// Those of [`advance_problem`].
+pub fn advance<R: Threads + Sync, S: Stopper, G: Gate>(
+    rt: &R,
+    alloc: Global,
+    state: &State,
+    budget: u64,
+    workers: u32,
+    stop_name: Option<&str>,
+    gate: &G,
+    stopper: &mut S,
+) -> Result<Progress, NoMemory>
+    requires budget { (0 < budget) × (budget ≤ 2 ^ 40) }
+    requires workers { (0 < workers) × (workers ≤ 64) }
+    ensures progress { IfOk result (IsProgress (sum_of state.now) budget workers) }
+    ensures of_problem { IfOk result (λ progress. IsOfProblem state.now.problem progress.outcome) }
+    ensures truth { IfOk result (λ progress. KeepsTruth (sum_of state.now) progress.outcome) }
+    ensures chain { IfOk result (λ progress. (first : ℕ) (begin : List ℕ)
+        → IsChain state.now.problem first begin state.now.next state.now.residues
+        → IsEndOfChain (record { problem = state.now.problem; next = first; residues = begin }) progress.outcome) }
+    ensures stopped { IfOk result (λ progress. IsEarly (sum_of state.now) budget progress.outcome
+        → IfSome stop_name.entry (λ name. RoseBy (S.stops stopper.old) (S.stops stopper.new) name.now (S.last_stop stopper.new))) }
+    ensures kept { IfOk result (λ progress. ¬ IsEarly (sum_of state.now) budget progress.outcome
+        → Stayed (S.stops stopper.old) (S.stops stopper.new) (S.last_stop stopper.old) (S.last_stop stopper.new)) }
+    ensures refused { OnErr result
+        (Stayed (S.stops stopper.old) (S.stops stopper.new) (S.last_stop stopper.old) (S.last_stop stopper.new)) }
+{
+    advance_problem(
+        rt,
+        alloc,
+        state.problem(),
+        state.next(),
+        state.residues(),
+        budget,
+        workers,
+        stop_name,
+        gate,
+        stopper,
+    )
+}
+
+/// Runs rounds until one of the ends is reached.
+fn run_rounds<R: Threads + Sync, S: Stopper, G: Gate>(
+    rt: &R,
+    alloc: Global,
+    problem: &Problem,
+    next: u64,
+    residues: &[u64],
+    budget: u64,
+    workers: u32,
+    stop_name: Option<&str>,
+    gate: &G,
+    stopper: &mut S,
+) -> Result<Progress, NoMemory>
+    requires next { next ≤ count_of (problem_view problem.now) }
+    requires residues { AreResidues (problem_view problem.now) residues.now }
+    requires budget { (0 < budget) × (budget ≤ 2 ^ 40) }
+    requires workers { (0 < workers) × (workers ≤ 64) }
+    ensures progress { IfOk result (IsProgress
+        (record { problem = problem_view problem.now; next = next; residues = residues.now }) budget workers) }
     ensures stopped { IfOk result (λ progress. IsEarly
         (record { problem = problem_view problem.now; next = next; residues = residues.now }) budget progress.outcome
         → IfSome stop_name.entry (λ name. RoseBy (S.stops stopper.old) (S.stops stopper.new) name.now (S.last_stop stopper.new))) }
@@ -111,48 +189,6 @@ pub fn advance_problem<R: Threads + Sync, S: Stopper, G: Gate>(
         outcome: outcome_at(count, at, sums),
         shares,
     })
-}
-
-/// Does the same from a state: sums the trees of its problem from its next number on.
-///
-/// # Errors
-/// Those of [`advance_problem`].
-pub fn advance<R: Threads + Sync, S: Stopper, G: Gate>(
-    rt: &R,
-    alloc: Global,
-    state: &State,
-    budget: u64,
-    workers: u32,
-    stop_name: Option<&str>,
-    gate: &G,
-    stopper: &mut S,
-) -> Result<Progress, NoMemory>
-    requires budget { (0 < budget) × (budget ≤ 2 ^ 40) }
-    requires workers { (0 < workers) × (workers ≤ 64) }
-    ensures progress { IfOk result (IsProgress (sum_of state.now) budget workers) }
-    ensures truth { IfOk result (λ progress. KeepsTruth (sum_of state.now) progress.outcome) }
-    ensures chain { IfOk result (λ progress. (first : ℕ) (begin : List ℕ)
-        → IsChain state.now.problem first begin state.now.next state.now.residues
-        → IsEndOfChain (record { problem = state.now.problem; next = first; residues = begin }) progress.outcome) }
-    ensures stopped { IfOk result (λ progress. IsEarly (sum_of state.now) budget progress.outcome
-        → IfSome stop_name.entry (λ name. RoseBy (S.stops stopper.old) (S.stops stopper.new) name.now (S.last_stop stopper.new))) }
-    ensures kept { IfOk result (λ progress. ¬ IsEarly (sum_of state.now) budget progress.outcome
-        → Stayed (S.stops stopper.old) (S.stops stopper.new) (S.last_stop stopper.old) (S.last_stop stopper.new)) }
-    ensures refused { OnErr result
-        (Stayed (S.stops stopper.old) (S.stops stopper.new) (S.last_stop stopper.old) (S.last_stop stopper.new)) }
-{
-    advance_problem(
-        rt,
-        alloc,
-        state.problem(),
-        state.next(),
-        state.residues(),
-        budget,
-        workers,
-        stop_name,
-        gate,
-        stopper,
-    )
 }
 
 /// Where a call ends that has summed all numbers below `at`, and met no bad tree.

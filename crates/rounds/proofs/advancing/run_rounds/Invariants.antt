@@ -2,7 +2,7 @@ use Rattle.std.proofs.Common.{◌≡◌, ◌≤◌, ◌-◌, length}
 use Rattle.problem.specs.Problems.{view as problem_view}
 use Rattle.locus_io.specs.Causes.{Stayed}
 use Rattle.rounds.proofs.Running.{IsRunning}
-use Rattle.rounds.proofs.advancing.advance_problem.Given as goal
+use Rattle.rounds.proofs.advancing.run_rounds.Given as goal
 
 abbrev pub invariant-loop-at : goal.invariant-loop-at
 invariant-loop-at g l = record {
