@@ -1,0 +1,4 @@
+pub mod Later
+pub mod Powers
+pub mod FlagLaws
+pub mod VertexLaws
