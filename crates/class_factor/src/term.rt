@@ -1,9 +1,8 @@
 //! The value of a term at a tree.
 
-ghost use Rattle.std.specs.Prelude.{◌<◌, ◌≡◌, length, All, List};
+ghost use Rattle.std.specs.Prelude.{◌<◌, length, All};
 ghost use Rattle.arithmetic.specs.Fractions.{product_of_fractions};
 ghost use Rattle.residue.specs.Ratios.{IsRatioOf};
-ghost use Rattle.tree_parts.specs.Parts.{tree_of_parts, AreParts};
 ghost use Rattle.localisation.specs.ClassValue.{term_value};
 ghost use Rattle.residue.specs.Classes.{IsPowerFor};
 ghost use Rattle.class_factor.specs.Powers.{value_of_powers};
@@ -15,13 +14,12 @@ use tree_parts::TreeParts;
 /// The residues of the top and the bottom of the value of a term at a tree, without a division: the coefficient times
 /// the product of the values of its classes, each to its power.
 ///
-/// The colours of the tree are at most the rank, and the parameter and the mark of each class, where it has one, are
+/// The rank of the tree is at most that of the weights, and the parameter and the mark of each class, where it has one, are
 /// within their limits.
 pub fn term_ratio(setup: &Setup, term: &Term, parts: &TreeParts, modulus: &Modulus) -> Ratio
-    requires classes { All (IsPowerFor (length parts.now.marks.now)) term.now.classes }
-    requires parts { AreParts parts.now }
-    requires colours { All (λ c. c < length setup.now) parts.now.colours.now }
-    ensures { IsRatioOf modulus.now (term_value setup.now term.now (tree_of_parts parts.now)) result }
+    requires classes { All (IsPowerFor parts.now.shape.marks) term.now.classes }
+    requires rank { parts.now.shape.rank < length setup.now }
+    ensures { IsRatioOf modulus.now (term_value setup.now term.now parts.now.tree) result }
 {
     let number = term.coefficient;
     let coefficient = Ratio::whole(modulus.of_i64(number), modulus);
@@ -31,10 +29,9 @@ pub fn term_ratio(setup: &Setup, term: &Term, parts: &TreeParts, modulus: &Modul
 
 /// The product of the values of classes, each to its power.
 fn powers_ratio(setup: &Setup, powers: &[Power], parts: &TreeParts, modulus: &Modulus) -> Ratio
-    requires classes { All (IsPowerFor (length parts.now.marks.now)) powers.now }
-    requires parts { AreParts parts.now }
-    requires colours { All (λ c. c < length setup.now) parts.now.colours.now }
-    ensures { IsRatioOf modulus.now (value_of_powers setup.now (tree_of_parts parts.now) powers.now) result }
+    requires classes { All (IsPowerFor parts.now.shape.marks) powers.now }
+    requires rank { parts.now.shape.rank < length setup.now }
+    ensures { IsRatioOf modulus.now (value_of_powers setup.now parts.now.tree powers.now) result }
 {
     let mut product = Ratio::whole(modulus.of_u64(1), modulus);
     for power in powers {

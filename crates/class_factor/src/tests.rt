@@ -3,7 +3,8 @@
 mod table;
 
 use super::*;
-use decorated_tree::Shape;
+use decorated_tree::{Shape, Tree};
+use prufer::Edges;
 use residue::{Class, Modulus, Power, Powers, Setup, Term};
 use std::process::Abort;
 use std::test::Fail;
@@ -203,44 +204,75 @@ fn parts_at_vertices(rt: HostRuntime) -> Result<(), Fail> {
     Ok(())
 }
 
+/// A tree that is written down by hand.
+struct Drawn {
+    /// The greatest colour, the sum of the degrees and the number of marks.
+    shape: (u8, u8, u8),
+    edges: &'static [(u8, u8)],
+    colours: [u8; 11],
+    degrees: [u8; 10],
+    marks: [u8; 12],
+}
+
 /// A tree of one edge of degree 2.
-const LINE_OF_DEGREE_2: TreeParts<'static> = TreeParts {
+const LINE_OF_DEGREE_2: &Drawn = &Drawn {
+    shape: (1, 2, 0),
     edges: &[(0, 1)],
-    colours: &[0, 1],
-    degrees: &[2],
-    marks: &[],
+    colours: [0, 1, 0, 0, 0, 0, 0, 0, 0, 0, 0],
+    degrees: [2, 0, 0, 0, 0, 0, 0, 0, 0, 0],
+    marks: [0; 12],
 };
 
 /// A tree of two edges, with a mark at an end.
-const PATH: TreeParts<'static> = TreeParts {
+const PATH: &Drawn = &Drawn {
+    shape: (1, 2, 1),
     edges: &[(0, 1), (0, 2)],
-    colours: &[1, 0, 0],
-    degrees: &[1, 1],
-    marks: &[2],
+    colours: [1, 0, 0, 0, 0, 0, 0, 0, 0, 0, 0],
+    degrees: [1, 1, 0, 0, 0, 0, 0, 0, 0, 0],
+    marks: [2, 0, 0, 0, 0, 0, 0, 0, 0, 0, 0, 0],
 };
 
 /// A tree of four edges, three of them at one vertex and the fourth at it too.
-const STAR: TreeParts<'static> = TreeParts {
+const STAR: &Drawn = &Drawn {
+    shape: (4, 6, 4),
     edges: &[(0, 3), (1, 3), (2, 3), (3, 4)],
-    colours: &[0, 1, 2, 3, 4],
-    degrees: &[1, 2, 3, 1],
-    marks: &[3, 3, 0, 4],
+    colours: [0, 1, 2, 3, 4, 0, 0, 0, 0, 0, 0],
+    degrees: [1, 1, 3, 1, 0, 0, 0, 0, 0, 0],
+    marks: [3, 3, 0, 4, 0, 0, 0, 0, 0, 0, 0, 0],
 };
+
+/// The parts of a tree that is written down by hand.
+fn parts_of(rt: &impl Abort, drawn: &Drawn) -> Result<TreeParts, Fail> {
+    let (r, d, m) = drawn.shape;
+    let shape = Shape::new(r, d, m).ok().ok_or("refused")?;
+    let edges = Edges::of(drawn.edges).ok_or("no edges")?;
+    let tree = Tree {
+        n: edges.len() as u8 + 1,
+        edges,
+        colours: drawn.colours,
+        degrees: drawn.degrees,
+        m,
+        marks: drawn.marks,
+    };
+    assert!(rt; shape.d() <= 10 && shape.m() <= 12);
+    assert!(rt; shape.number(&tree).is_ok());
+    Ok(TreeParts::of(&tree, shape.r()))
+}
 
 fn value_at(
     rt: &impl Abort,
     weights: &[i64],
     class: &Class,
-    parts: &TreeParts,
+    drawn: &Drawn,
     modulus: u64,
 ) -> Result<Option<u64>, Fail> {
     let setup = Setup::new(weights)?;
     let modulus = Modulus::new(modulus)?;
-    assert!(rt; parts.are_sound() && parts.marks.len() <= 12);
-    assert!(rt; parts.colours.iter().all(|c| *c <= setup.rank()));
-    assert!(rt; is_class_for(class, parts.marks.len() as u8));
+    let parts = parts_of(rt, drawn)?;
+    assert!(rt; parts.rank() <= setup.rank());
+    assert!(rt; is_class_for(class, parts.mark_count()));
     Ok(
-        whole_ratio(&setup, class, parts, &modulus)
+        whole_ratio(&setup, class, &parts, &modulus)
             .residue(&modulus)
             .ok(),
     )
@@ -250,7 +282,7 @@ fn value_at(
 fn values_of_classes(rt: HostRuntime) -> Result<(), Fail> {
     let five = [1, 10, 100, 1000, 10_000];
     let quintic = Class::Hypersurface { b: 5 };
-    for (weights, class, parts, modulus, residue) in [
+    for (weights, class, drawn, modulus, residue) in [
         ([1, 3].as_slice(), R1, LINE_OF_DEGREE_2, 101, Some(99)),
         ([1, 3].as_slice(), R1, PATH, 101, Some(98)),
         (
@@ -286,7 +318,7 @@ fn values_of_classes(rt: HostRuntime) -> Result<(), Fail> {
             quintic,
             STAR,
             PRIME,
-            Some(640_713_620_354_772_872),
+            Some(2_045_683_565_202_579_500),
         ),
         (five.as_slice(), quintic, STAR, 9, None),
         (
@@ -294,21 +326,21 @@ fn values_of_classes(rt: HostRuntime) -> Result<(), Fail> {
             Class::Contact,
             STAR,
             PRIME,
-            Some(1_479_895_457_200_599_267),
+            Some(3_002_746_047_413_600_569),
         ),
         (
             five.as_slice(),
             Class::R1 { k: 2 },
             STAR,
             PRIME,
-            Some(3_131_790_561_226_788_580),
+            Some(1_608_939_971_013_787_278),
         ),
         (
             five.as_slice(),
             Class::Incidence { q: 12 },
             STAR,
             GREATEST,
-            Some(974_154_819_425_974_299),
+            Some(3_178_221_597_698_528_691),
         ),
         (
             five.as_slice(),
@@ -325,7 +357,7 @@ fn values_of_classes(rt: HostRuntime) -> Result<(), Fail> {
             Some(1),
         ),
     ] {
-        let found = value_at(&rt, weights, &class, &parts, modulus)?;
+        let found = value_at(&rt, weights, &class, drawn, modulus)?;
         assert_eq!(rt; found, residue, "{class:?} modulo {modulus}");
     }
     Ok(())
@@ -362,7 +394,7 @@ fn values_of_terms(rt: HostRuntime) -> Result<(), Fail> {
             power: 2
         },
     ]?;
-    for (weights, coefficient, classes, parts, modulus, residue) in vec![in alloc;
+    for (weights, coefficient, classes, drawn, modulus, residue) in vec![in alloc;
         (
             [1, 3, 0, 0, 0],
             1,
@@ -390,7 +422,7 @@ fn values_of_terms(rt: HostRuntime) -> Result<(), Fail> {
             several,
             STAR,
             PRIME,
-            Some(3_910_028_726_639_569_769)
+            Some(1_460_407_797_582_962_942)
         ),
         ([1, 10, 100, 1000, 10_000], 7, beyond, STAR, GREATEST, None),
     ]? {
@@ -400,9 +432,9 @@ fn values_of_terms(rt: HostRuntime) -> Result<(), Fail> {
             coefficient,
             classes: Powers::of(classes),
         };
-        assert!(rt; parts.are_sound() && parts.marks.len() <= 12);
-        assert!(rt; parts.colours.iter().all(|c| *c <= setup.rank()));
-        assert!(rt; are_powers_for(term.classes.as_slice(), parts.marks.len() as u8));
+        let parts = parts_of(&rt, drawn)?;
+        assert!(rt; parts.rank() <= setup.rank());
+        assert!(rt; are_powers_for(term.classes.as_slice(), parts.mark_count()));
         let found = term_ratio(&setup, &term, &parts, &modulus)
             .residue(&modulus)
             .ok();

@@ -1,12 +1,11 @@
 //! The value of a class at a tree.
 
-ghost use Rattle.std.specs.Prelude.{◌<◌, ◌≤◌, length, All, ℤ};
+ghost use Rattle.std.specs.Prelude.{◌<◌, ◌≤◌, length, ℤ};
 ghost use Rattle.arithmetic.specs.Numbers.{Leaves, total, sum_below};
 ghost use Rattle.arithmetic.specs.Fractions.{product_of_fractions};
 ghost use Rattle.localisation.specs.ClassValue.{class_edge, class_value, incidence_at, incidence_term, at_edges, at_vertices};
 ghost use Rattle.residue.specs.Degrees.{HasParameterWithinLimit};
 ghost use Rattle.residue.specs.Ratios.{IsRatioOf};
-ghost use Rattle.tree_parts.specs.Parts.{tree_of_parts, AreParts};
 ghost use Rattle.residue.specs.Classes.{IsClassFor};
 ghost use Rattle.class_factor.specs.Vertices.{class_at_vertex};
 
@@ -17,17 +16,16 @@ use tree_parts::TreeParts;
 
 /// The residues of the top and the bottom of the value of a class at a tree, without a division.
 ///
-/// The colours of the tree are at most the rank, and the parameter and the mark of the class, where it has one, are
-/// within their limits: a mark is from 1 to the number of the tree's marks.
+/// The rank of the tree is at most that of the weights, and the parameter and the mark of the class, where it has one,
+/// are within their limits: a mark is from 1 to the number of the tree's marks.
 pub fn whole_ratio(setup: &Setup, class: &Class, parts: &TreeParts, modulus: &Modulus) -> Ratio
-    requires class { IsClassFor (length parts.now.marks.now) class.now }
-    requires parts { AreParts parts.now }
-    requires colours { All (λ c. c < length setup.now) parts.now.colours.now }
-    ensures { IsRatioOf modulus.now (class_value setup.now class.now (tree_of_parts parts.now)) result }
+    requires class { IsClassFor parts.now.shape.marks class.now }
+    requires rank { parts.now.shape.rank < length setup.now }
+    ensures { IsRatioOf modulus.now (class_value setup.now class.now parts.now.tree) result }
 {
     match *class {
         Class::Mark { mark } => {
-            let colour = parts.colours[parts.marks[mark as usize - 1] as usize];
+            let colour = parts.colour(parts.vertex_of(mark));
             Ratio::whole(setup.weight_modulo(colour, modulus), modulus)
         }
         Class::Incidence { q } => Ratio::whole(incidence(setup, q, parts, modulus), modulus),
@@ -45,14 +43,12 @@ pub fn whole_ratio(setup: &Setup, class: &Class, parts: &TreeParts, modulus: &Mo
 /// The product of the parts of a class at all edges.
 fn edge_parts(setup: &Setup, class: &Class, parts: &TreeParts, modulus: &Modulus) -> Ratio
     requires parameter { HasParameterWithinLimit class.now }
-    requires parts { AreParts parts.now }
-    requires colours { All (λ c. c < length setup.now) parts.now.colours.now }
-    ensures { IsRatioOf modulus.now
-        (product_of_fractions (at_edges (class_edge setup.now class.now) (tree_of_parts parts.now))) result }
+    requires rank { parts.now.shape.rank < length setup.now }
+    ensures { IsRatioOf modulus.now (product_of_fractions (at_edges (class_edge setup.now class.now) parts.now.tree)) result }
 {
     let mut product = Ratio::whole(modulus.of_u64(1), modulus);
-    for place in 0..parts.edges.len() {
-        let edge = parts.edge(place);
+    let edges = parts.edges();
+    for edge in edges {
         let part = edge_part_ratio(setup, class, edge.first, edge.second, edge.degree, modulus);
         product = product.times(part, modulus);
     }
@@ -61,15 +57,14 @@ fn edge_parts(setup: &Setup, class: &Class, parts: &TreeParts, modulus: &Modulus
 
 /// The product of the parts of a class at all vertices.
 fn vertex_parts(setup: &Setup, class: &Class, parts: &TreeParts, modulus: &Modulus) -> Ratio
-    requires parts { AreParts parts.now }
-    requires colours { All (λ c. c < length setup.now) parts.now.colours.now }
-    ensures { IsRatioOf modulus.now (product_of_fractions
-        (at_vertices (class_at_vertex setup.now class.now (tree_of_parts parts.now)) (tree_of_parts parts.now))) result }
+    requires rank { parts.now.shape.rank < length setup.now }
+    ensures { IsRatioOf modulus.now
+        (product_of_fractions (at_vertices (class_at_vertex setup.now class.now parts.now.tree) parts.now.tree)) result }
 {
     let mut product = Ratio::whole(modulus.of_u64(1), modulus);
-    for vertex in 0..parts.colours.len() {
-        let valence = parts.valence(vertex as u8);
-        let part = vertex_part_ratio(setup, class, parts.colours[vertex], valence, modulus);
+    for vertex in 0..parts.vertices() {
+        let colour = parts.colour(vertex);
+        let part = vertex_part_ratio(setup, class, colour, parts.valence(vertex), modulus);
         product = product.times(part, modulus);
     }
     product
@@ -78,13 +73,12 @@ fn vertex_parts(setup: &Setup, class: &Class, parts: &TreeParts, modulus: &Modul
 /// The value of an incidence class: the sum over all edges.
 fn incidence(setup: &Setup, q: u8, parts: &TreeParts, modulus: &Modulus) -> u64
     requires q_limited { q ≤ 12 }
-    requires parts { AreParts parts.now }
-    requires colours { All (λ c. c < length setup.now) parts.now.colours.now }
-    ensures { Leaves modulus.now (total (at_edges (incidence_at setup.now q) (tree_of_parts parts.now))) result }
+    requires rank { parts.now.shape.rank < length setup.now }
+    ensures { Leaves modulus.now (total (at_edges (incidence_at setup.now q) parts.now.tree)) result }
 {
     let mut sum = modulus.of_u64(0);
-    for place in 0..parts.edges.len() {
-        let edge = parts.edge(place);
+    let edges = parts.edges();
+    for edge in edges {
         let at_edge = incidence_at(setup, q, edge.first, edge.second, edge.degree, modulus);
         sum = modulus.add(sum, at_edge);
     }

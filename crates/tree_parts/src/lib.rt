@@ -1,11 +1,14 @@
-//! The lists of a decorated tree, borrowed, and what stands at its edges and vertices.
+//! A decorated tree as its factors read it: its edges with the colours of their ends, and the ends and the marks at each
+//! vertex, all found once.
 #![tactic(auto)]
 
+mod edges;
 mod ends;
+mod marks;
 mod parts;
 
-pub use ends::Ends;
-pub use parts::{ColouredEdge, TreeParts};
+pub use edges::ColouredEdge;
+pub use parts::TreeParts;
 
 #[cfg(test)]
 mod tests;

@@ -1,20 +1,42 @@
 //! Parts of trees that were written down by hand.
 
 use super::*;
+use decorated_tree::{Shape, Tree};
+use prufer::Edges;
+use std::process::Abort;
+use std::test::Fail;
+
+/// A star of five vertices with four edges, the centre third, of rank 5, the sum 6 of degrees and two marks.
+fn star() -> Result<Tree, Fail> {
+    let edges = Edges::of(&[(0, 3), (1, 3), (2, 3), (3, 4)]).ok_or("no edges")?;
+    Ok(Tree {
+        n: 5,
+        edges,
+        colours: [0, 1, 2, 5, 4, 0, 0, 0, 0, 0, 0],
+        degrees: [1, 3, 1, 1, 0, 0, 0, 0, 0, 0],
+        m: 2,
+        marks: [3, 0, 0, 0, 0, 0, 0, 0, 0, 0, 0, 0],
+    })
+}
+
+/// The parts of a tree of a shape.
+fn parts_of(rt: &impl Abort, shape: &Shape, tree: &Tree) -> TreeParts {
+    assert!(rt; shape.d() <= 10 && shape.m() <= 12);
+    assert!(rt; shape.number(tree).is_ok());
+    TreeParts::of(tree, shape.r())
+}
 
 #[test]
-fn edges_and_valences(rt: HostRuntime) {
-    let star = TreeParts {
-        edges: &[(0, 3), (1, 3), (2, 3), (3, 4)],
-        colours: &[0, 1, 2, 5, 4],
-        degrees: &[1, 2, 3, 1],
-        marks: &[3, 0],
-    };
-    assert!(rt; star.are_sound());
-    for (place, first, second, degree) in [(0, 0, 5, 1), (1, 1, 5, 2), (2, 2, 5, 3), (3, 5, 4, 1)] {
-        assert!(rt; place < star.edges.len());
+fn edges_with_their_colours(rt: HostRuntime) -> Result<(), Fail> {
+    let shape = Shape::new(5, 6, 2).ok().ok_or("refused")?;
+    let star = parts_of(&rt, &shape, &star()?);
+    assert_eq!(rt; star.vertices(), 5);
+    let edges = star.edges();
+    assert_eq!(rt; edges.len(), 4);
+    for (place, first, second, degree) in [(0, 0, 5, 1), (1, 1, 5, 3), (2, 2, 5, 1), (3, 5, 4, 1)] {
+        assert!(rt; place < edges.len());
         assert_eq!(rt;
-            star.edge(place),
+            edges[place],
             ColouredEdge {
                 first,
                 second,
@@ -23,85 +45,39 @@ fn edges_and_valences(rt: HostRuntime) {
             "edge {place}"
         );
     }
-    for (vertex, valence) in [(0, 1), (1, 1), (2, 1), (3, 4), (4, 1), (5, 0)] {
-        assert_eq!(rt; star.valence(vertex), valence, "at {vertex}");
-    }
+    Ok(())
 }
 
 #[test]
-fn parts_that_are_not_sound(rt: HostRuntime) {
-    for (name, edges, colours, degrees, marks, sound) in [
+fn ends_and_marks_at_each_vertex(rt: HostRuntime) -> Result<(), Fail> {
+    let shape = Shape::new(5, 6, 2).ok().ok_or("refused")?;
+    let star = parts_of(&rt, &shape, &star()?);
+    for (vertex, colour, ends, marks) in [
+        (0, 0, [(5, 1)].as_slice(), [2].as_slice()),
+        (1, 1, [(5, 3)].as_slice(), [].as_slice()),
+        (2, 2, [(5, 1)].as_slice(), [].as_slice()),
         (
-            "a line",
-            [(0, 1)].as_slice(),
-            [0, 1].as_slice(),
-            [10].as_slice(),
+            3,
+            5,
+            [(0, 1), (1, 3), (2, 1), (4, 1)].as_slice(),
             [1].as_slice(),
-            true,
         ),
-        (
-            "an end past the vertices",
-            [(0, 2)].as_slice(),
-            [0, 1].as_slice(),
-            [1].as_slice(),
-            [].as_slice(),
-            false,
-        ),
-        (
-            "no degree",
-            [(0, 1)].as_slice(),
-            [0, 1].as_slice(),
-            [].as_slice(),
-            [].as_slice(),
-            false,
-        ),
-        (
-            "degree 0",
-            [(0, 1)].as_slice(),
-            [0, 1].as_slice(),
-            [0].as_slice(),
-            [].as_slice(),
-            false,
-        ),
-        (
-            "degree 11",
-            [(0, 1)].as_slice(),
-            [0, 1].as_slice(),
-            [11].as_slice(),
-            [].as_slice(),
-            false,
-        ),
-        (
-            "a mark past the vertices",
-            [(0, 1)].as_slice(),
-            [0, 1].as_slice(),
-            [1].as_slice(),
-            [2].as_slice(),
-            false,
-        ),
-        (
-            "eleven vertices",
-            [(9, 10)].as_slice(),
-            [1; 11].as_slice(),
-            [1].as_slice(),
-            [].as_slice(),
-            true,
-        ),
-        (
-            "twelve vertices",
-            [(9, 11)].as_slice(),
-            [1; 12].as_slice(),
-            [1].as_slice(),
-            [].as_slice(),
-            false,
-        ),
+        (4, 4, [(5, 1)].as_slice(), [].as_slice()),
     ] {
-        let parts = TreeParts {
-            edges,
-            colours,
-            degrees,
-            marks,
-        };
-        assert_eq!(rt; parts.are_sound(), sound, "{name}");
+        assert!(rt; vertex < star.vertices());
+        assert_eq!(rt; star.colour(vertex), colour, "colour of {vertex}");
+        assert!(rt; star.ends_at(vertex) == ends, "ends at {vertex}");
+        assert_eq!(rt;
+            star.valence(vertex) as usize,
+            ends.len(),
+            "valence of {vertex}"
+        );
+        assert!(rt; star.marks_at(vertex) == marks, "marks at {vertex}");
     }
+    assert_eq!(rt; star.mark_count(), 2);
+    for (mark, vertex) in [(1, 3), (2, 0)] {
+        assert!(rt; 1 <= mark && mark <= star.mark_count());
+        assert_eq!(rt; star.vertex_of(mark), vertex, "mark {mark}");
+    }
+    Ok(())
 }

@@ -1,8 +1,8 @@
-use Rattle.std.proofs.Common.{take}
+use Rattle.std.proofs.Common.{map, take}
 use Rattle.arithmetic.specs.Numbers.{Leaves, total}
-use Rattle.localisation.specs.ClassValue.{incidence_at, along_edges}
+use Rattle.localisation.specs.ClassValue.{incidence_at}
+use Rattle.class_factor.proofs.Values.{of_edge}
 use Rattle.class_factor.proofs.whole.incidence.Given as goal
 
-abbrev pub invariant-loop-place : goal.invariant-loop-place
-invariant-loop-place l =
-    Leaves l.modulus (total (along_edges (incidence_at l.setup l.q) l.parts.colours.now (take l.place l.parts.edges.now) (take l.place l.parts.degrees.now))) l.sum
+abbrev pub invariant-loop-edge : goal.invariant-loop-edge
+invariant-loop-edge l = Leaves l.modulus (total (map (of_edge (incidence_at l.setup l.q)) (take l.edge-index l.edges))) l.sum

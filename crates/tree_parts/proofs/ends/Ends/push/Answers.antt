@@ -1,0 +1,8 @@
+use Rattle.std.proofs.Common.{arith, ap, length}
+use Rattle.trees.specs.Padding.{length-front, padded-set}
+use Rattle.tree_parts.proofs.ends.Ends.push.Goals as goal
+
+pub invariant_of-self : goal.invariant_of-self
+invariant_of-self c =
+    padded-set (0, 0) 10 _ _ (c.args.colour, c.args.degree)
+    (omega (arith, length-front (0, 0) 10 c.self.inside.count c.self.inside.items c.self.invariant, ap length c.self.view_is)) c.self.invariant
