@@ -1,2 +1,5 @@
 pub mod Words
 pub mod Ends
+pub mod Trees
+pub mod Classes
+pub mod Numberings

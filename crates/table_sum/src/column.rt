@@ -1,6 +1,6 @@
 //! The words of a table for one of its moduli.
 
-ghost use Rattle.std.specs.Prelude.{◌≡◌, ◌<◌, length};
+ghost use Rattle.std.specs.Prelude.{◌≡◌, ◌<◌, ◌≤◌, length};
 ghost use Rattle.factor_table.specs.Factors.{modulus_at};
 ghost use Rattle.factor_table.specs.Seats.{parameters_of};
 
@@ -12,19 +12,21 @@ pub(crate) struct Column<'a> {
     table: &'a FactorTable,
     /// The modulus.
     pub(crate) modulus: &'a Modulus,
-    index: u8,
+    pub(crate) index: u8,
     ghost above: { 1 < modulus.now },
     ghost within: { index < length (parameters_of table.now).moduli },
+    ghost few_classes: { length (parameters_of table.now).classes ≤ 512 },
     ghost is_modulus: { modulus.now ≡ modulus_at (parameters_of table.now) index },
 }
 
 impl<'a> Column<'a> {
-    ghost use Rattle.std.specs.Prelude.{◌≡◌, ◌<◌, length};
+    ghost use Rattle.std.specs.Prelude.{◌≡◌, ◌<◌, ◌≤◌, length};
     ghost use Rattle.factor_table.specs.Seats.{parameters_of};
 
     /// The words of a table for the modulus at an index.
     pub(crate) fn of(table: &'a FactorTable, index: u8) -> Column<'a>
-        requires { index < length (parameters_of table.now).moduli }
+        requires index { index < length (parameters_of table.now).moduli }
+        requires classes { length (parameters_of table.now).classes ≤ 512 }
         ensures table { result.table.now ≡ table.now }
         ensures index { result.index ≡ index }
     {

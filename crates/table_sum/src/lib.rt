@@ -18,6 +18,11 @@
 //! cancel. Then the answer is `NoUnit`, and the caller takes the sum without the table.
 #![tactic(auto)]
 
+mod classes;
 mod column;
+mod edges;
 mod flags;
+mod numberings;
 mod vertex;
+
+pub use numberings::Numberings;

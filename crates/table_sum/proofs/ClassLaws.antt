@@ -1,0 +1,63 @@
+-- The classes of terms in the table's list, and the values of classes.
+use Rattle.std.proofs.Common.{◌≡◌, ◌⊎◌, inl, inr, ℕ, ◌+◌, ◌<◌, ◌≤◌, List, length, take, get_or, map, flat_map, ℤ, pos, refl, sym, ap, subst, ◌∙◌, arith}
+use Rattle.std.proofs.lemmas.List.Concat.{get_or-flat_map}
+use Rattle.std.proofs.lemmas.List.Folds.{length-flat_map-take}
+use Rattle.std.proofs.lemmas.List.{get_or-map, length-map}
+use Rattle.arithmetic.specs.Numbers.{Leaves}
+use Rattle.arithmetic.specs.Fractions.{Fraction, fraction, IsResidue}
+use Rattle.arithmetic.proofs.Residues.{IsResidue-whole}
+use Rattle.trees.specs.Decorated.{DecoratedTree}
+use Rattle.residue.specs.declared.class.Class.{Class}
+use Rattle.residue.specs.declared.class.Class.TheVariants.{Mark, Hypersurface, Incidence, R1, Contact, Psi}
+use Rattle.residue.specs.declared.class.Power.{Power}
+use Rattle.residue.specs.declared.ratio.Ratio.{Ratio}
+use Rattle.residue.specs.Classes.{IsClassFor}
+use Rattle.residue.specs.Ratios.{IsRatioOf}
+use Rattle.localisation.specs.ClassValue.{class_value, class_product}
+use Rattle.factor_table.specs.Factors.{HasParts}
+use Rattle.table_sum.specs.Classes.{classes_of_powers, AreClassesFrom}
+
+-- ---- the classes of one item of a list
+pub of_item : {A : Type 0} (f : A → List Class) (classes : List Class) (first i : ℕ) (xs : List A) (x : A) → AreClassesFrom classes first (flat_map f xs) → i < length xs
+    → AreClassesFrom classes (first + length (flat_map f (take i xs))) (f (get_or xs i x))
+of_item f classes first i xs x h below =
+    let within = h.within in
+    let shorter = length-flat_map-take f xs i x below in
+    record {
+      within = omega (arith, shorter, within);
+      each = λ k d lt.
+          let at : first + length (flat_map f (take i xs)) + k ≡ first + (length (flat_map f (take i xs)) + k) = omega arith in
+          ap (λ n. get_or classes n d) at ∙ h.each (length (flat_map f (take i xs)) + k) d (omega (arith, shorter, lt))
+          ∙ get_or-flat_map f xs i k x d below lt;
+    }
+
+-- the class of a power
+pub class_of_power : (classes : List Class) (first i : ℕ) (ps : List Power) (d : Class) (p : Power) → AreClassesFrom classes first (classes_of_powers ps) → i < length ps
+    → get_or classes (first + i) d ≡ (get_or ps i p).class
+class_of_power classes first i ps d p h below =
+    h.each i d (let long = length-map ps (λ (q : Power). q.class) in omega (arith, long)) ∙ get_or-map (λ (q : Power). q.class) ps i p d below
+
+pub power_within : (classes : List Class) (first i : ℕ) (ps : List Power) → AreClassesFrom classes first (classes_of_powers ps) → i < length ps → first + i < length classes
+power_within classes first i ps h below =
+    let long = length-map ps (λ (q : Power). q.class) in
+    let within = h.within in
+    omega (arith, long, within)
+
+-- ---- a class with parts has the product of its parts as its value ..
+pub has_product : (ws : List ℤ) (class : Class) (g : DecoratedTree) → HasParts class → class_value ws class g ≡ class_product ws class g
+has_product ws (Mark mark) g h = absurd h
+has_product ws (Hypersurface b) g h = refl
+has_product ws (Incidence q) g h = absurd h
+has_product ws (R1 k) g h = refl
+has_product ws Contact g h = refl
+has_product ws (Psi mark) g h = absurd h
+
+-- .. and any other a whole number
+pub whole_value : (ws : List ℤ) (class : Class) (g : DecoratedTree) (marks m : ℕ) (ratio : Ratio) → IsClassFor marks class → (HasParts class → ⊥)
+    → IsRatioOf m (class_value ws class g) ratio → IsResidue m (class_value ws class g) ratio.top
+whole_value ws (Mark mark) g marks m ratio h none r = IsResidue-whole _ r.top
+whole_value ws (Hypersurface b) g marks m ratio h none r = absurd (none h.parameter)
+whole_value ws (Incidence q) g marks m ratio h none r = IsResidue-whole _ r.top
+whole_value ws (R1 k) g marks m ratio h none r = absurd (none h.parameter)
+whole_value ws Contact g marks m ratio h none r = absurd (none tt)
+whole_value ws (Psi mark) g marks m ratio h none r = IsResidue-whole _ r.top
