@@ -1,3 +1,2 @@
 pub mod ExponentBounds
-pub mod MarkLists
 pub mod TermSums

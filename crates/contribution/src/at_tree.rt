@@ -1,10 +1,10 @@
 //! The contribution of a tree that is kept as a `Tree`.
 
-ghost use Rattle.std.specs.Prelude.{◌<◌, length, All};
+ghost use Rattle.std.specs.Prelude.{◌-◌, length, All};
 ghost use Rattle.decorated_tree.specs.Trees.{tree_view};
 ghost use Rattle.localisation.specs.Contribution.{contribution};
 ghost use Rattle.residue.specs.Answers.{GivesResidue};
-ghost use Rattle.tree_parts.specs.Parts.{IsSomeTree};
+ghost use Rattle.tree_parts.specs.Trees.{IsTreeOfRank};
 ghost use Rattle.contribution.specs.Terms.{IsTermFor};
 
 use crate::sum::contribution;
@@ -25,11 +25,10 @@ pub fn tree_contribution(
     tree: &Tree,
     modulus: &Modulus,
 ) -> Result<u64, NoUnit>
-    requires tree { IsSomeTree tree.now }
-    requires colours { All (λ c. c < length setup.now) (tree_view tree.now).colours }
+    requires tree { IsTreeOfRank (length setup.now - 1) tree.now }
     requires terms { All (IsTermFor tree.now.m) terms.now }
     ensures { GivesResidue modulus.now (contribution setup.now terms.now (tree_view tree.now)) result }
 {
-    let parts = TreeParts::of(tree);
+    let parts = TreeParts::of(tree, setup.rank());
     contribution(setup, terms, &parts, modulus)
 }

@@ -1,12 +1,10 @@
 //! The exponents of psi classes at the marks of a vertex.
 
 ghost use Rattle.std.specs.Prelude.{◌≡◌, ◌<◌, ◌≤◌, ◌++◌, ◌∷◌, [], ℕ, length, map, sum};
-ghost use Rattle.localisation.specs.ClassValue.{psi_power, exponent_of, exponents_at};
-ghost use Rattle.tree_parts.specs.Parts.{tree_of_parts};
+ghost use Rattle.localisation.specs.ClassValue.{psi_power, exponent_of};
 
 use residue::{Class, Power, Term};
 use std::marker::Model;
-use tree_parts::TreeParts;
 
 /// At most twelve exponents, one for each mark at a vertex.
 #[derive(Drop)]
@@ -54,17 +52,15 @@ impl Exponents {
     }
 }
 
-/// The exponents of a term at the marks of a vertex, in the order of the marks.
-pub(crate) fn exponents_at(term: &Term, parts: &TreeParts, vertex: u8) -> Exponents
-    requires marks_limited { length parts.now.marks.now ≤ 12 }
+/// The exponents of a term at marks, which are counted from 1, in their order.
+pub(crate) fn exponents_of(term: &Term, marks: &[u8]) -> Exponents
+    requires marks_limited { length marks.now ≤ 12 }
     requires exponents_limited { (j : ℕ) → exponent_of term.now j ≤ 151 }
-    ensures { result ≡ exponents_at term.now (tree_of_parts parts.now) vertex }
+    ensures { result ≡ map (exponent_of term.now) marks.now }
 {
     let mut exponents = Exponents::none();
-    for place in 0..parts.marks.len() {
-        if parts.marks[place] == vertex {
-            exponents.push(exponent_of(term.classes.as_slice(), place as u8 + 1));
-        }
+    for mark in marks {
+        exponents.push(exponent_of(term.classes.as_slice(), *mark));
     }
     exponents
 }

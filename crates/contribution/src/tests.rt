@@ -3,9 +3,11 @@
 mod table;
 
 use super::*;
-use decorated_tree::Shape;
+use decorated_tree::{Shape, Tree};
+use prufer::Edges;
 use residue::{Class, Modulus, Power, Powers, Setup, Term, Terms};
 use std::alloc::Global;
+use std::process::Abort;
 use std::test::Fail;
 use tree_parts::TreeParts;
 
@@ -15,47 +17,81 @@ const GREATEST: u64 = 4_611_686_018_427_387_903;
 /// A prime near 2^62.
 const PRIME: u64 = 4_611_686_018_427_387_847;
 
-const LINE: TreeParts<'static> = TreeParts {
+/// A tree that is written down by hand.
+struct Drawn {
+    /// The greatest colour, the sum of the degrees and the number of marks.
+    shape: (u8, u8, u8),
+    edges: &'static [(u8, u8)],
+    colours: [u8; 11],
+    degrees: [u8; 10],
+    marks: [u8; 12],
+}
+
+const LINE: &Drawn = &Drawn {
+    shape: (1, 2, 0),
     edges: &[(0, 1)],
-    colours: &[1, 0],
-    degrees: &[2],
-    marks: &[],
+    colours: [1, 0, 0, 0, 0, 0, 0, 0, 0, 0, 0],
+    degrees: [2, 0, 0, 0, 0, 0, 0, 0, 0, 0],
+    marks: [0; 12],
 };
 
-const MARKED_LINE: TreeParts<'static> = TreeParts {
+const MARKED_LINE: &Drawn = &Drawn {
+    shape: (1, 2, 1),
     edges: &[(0, 1)],
-    colours: &[0, 1],
-    degrees: &[2],
-    marks: &[1],
+    colours: [0, 1, 0, 0, 0, 0, 0, 0, 0, 0, 0],
+    degrees: [2, 0, 0, 0, 0, 0, 0, 0, 0, 0],
+    marks: [1, 0, 0, 0, 0, 0, 0, 0, 0, 0, 0, 0],
 };
 
-const PATH: TreeParts<'static> = TreeParts {
+const PATH: &Drawn = &Drawn {
+    shape: (1, 2, 0),
     edges: &[(0, 1), (0, 2)],
-    colours: &[0, 1, 1],
-    degrees: &[1, 1],
-    marks: &[],
+    colours: [0, 1, 1, 0, 0, 0, 0, 0, 0, 0, 0],
+    degrees: [1, 1, 0, 0, 0, 0, 0, 0, 0, 0],
+    marks: [0; 12],
 };
 
-const OTHER_PATH: TreeParts<'static> = TreeParts {
+const OTHER_PATH: &Drawn = &Drawn {
+    shape: (1, 2, 0),
     edges: &[(0, 1), (0, 2)],
-    colours: &[1, 0, 0],
-    degrees: &[1, 1],
-    marks: &[],
+    colours: [1, 0, 0, 0, 0, 0, 0, 0, 0, 0, 0],
+    degrees: [1, 1, 0, 0, 0, 0, 0, 0, 0, 0],
+    marks: [0; 12],
 };
 
-const MARKED_PATH: TreeParts<'static> = TreeParts {
+const MARKED_PATH: &Drawn = &Drawn {
+    shape: (1, 2, 4),
     edges: &[(0, 1), (0, 2)],
-    colours: &[1, 0, 0],
-    degrees: &[1, 1],
-    marks: &[2, 2, 2, 0],
+    colours: [1, 0, 0, 0, 0, 0, 0, 0, 0, 0, 0],
+    degrees: [1, 1, 0, 0, 0, 0, 0, 0, 0, 0],
+    marks: [2, 2, 2, 0, 0, 0, 0, 0, 0, 0, 0, 0],
 };
 
-const STAR: TreeParts<'static> = TreeParts {
+const STAR: &Drawn = &Drawn {
+    shape: (4, 6, 4),
     edges: &[(0, 3), (1, 3), (2, 3), (3, 4)],
-    colours: &[0, 1, 2, 3, 4],
-    degrees: &[1, 2, 3, 1],
-    marks: &[3, 3, 0, 4],
+    colours: [0, 1, 2, 3, 4, 0, 0, 0, 0, 0, 0],
+    degrees: [1, 1, 3, 1, 0, 0, 0, 0, 0, 0],
+    marks: [3, 3, 0, 4, 0, 0, 0, 0, 0, 0, 0, 0],
 };
+
+/// The parts of a tree that is written down by hand.
+fn parts_of(rt: &impl Abort, drawn: &Drawn) -> Result<TreeParts, Fail> {
+    let (r, d, m) = drawn.shape;
+    let shape = Shape::new(r, d, m).ok().ok_or("refused")?;
+    let edges = Edges::of(drawn.edges).ok_or("no edges")?;
+    let tree = Tree {
+        n: edges.len() as u8 + 1,
+        edges,
+        colours: drawn.colours,
+        degrees: drawn.degrees,
+        m,
+        marks: drawn.marks,
+    };
+    assert!(rt; shape.d() <= 10 && shape.m() <= 12);
+    assert!(rt; shape.number(&tree).is_ok());
+    Ok(TreeParts::of(&tree, shape.r()))
+}
 
 fn power(class: Class, power: u8) -> Power {
     Power { class, power }
@@ -70,18 +106,20 @@ fn term(alloc: Global, coefficient: i64, powers: &[Power]) -> Result<Term, Fail>
 }
 
 fn residue_at(
-    rt: &impl std::process::Abort,
+    rt: &impl Abort,
     weights: &[i64],
     terms: &Terms,
-    parts: &TreeParts,
+    drawn: &Drawn,
     modulus: u64,
 ) -> Result<Option<u64>, Fail> {
     let setup = Setup::new(weights)?;
-    assert!(rt; parts.are_sound() && parts.marks.len() <= 12);
-    assert!(rt; parts.have_ends());
-    assert!(rt; parts.colours.iter().all(|c| *c <= setup.rank()));
-    assert!(rt; are_terms_for(terms, parts.marks.len() as u8));
-    Ok(contribution(&setup, terms, parts, &Modulus::new(modulus)?).ok())
+    let parts = parts_of(rt, drawn)?;
+    assert!(rt; parts.rank() <= setup.rank());
+    let marks = parts.mark_count();
+    if !are_terms_for(terms, marks) {
+        return Err("beyond the limits".into());
+    }
+    Ok(contribution(&setup, terms, &parts, &Modulus::new(modulus)?).ok())
 }
 
 #[test]
@@ -90,7 +128,7 @@ fn one_term_without_psi_classes(rt: HostRuntime) -> Result<(), Fail> {
     let five = [1, 10, 100, 1000, 10_000];
     let r1 = power(Class::R1 { k: 1 }, 2);
     let quintic = power(Class::Hypersurface { b: 5 }, 1);
-    for (weights, coefficient, class, parts, modulus, residue) in [
+    for (weights, coefficient, class, drawn, modulus, residue) in [
         // -1/4 and 1/48 by hand, and 9/48 where the vertex in the middle has the colour 1.
         (two.as_slice(), 1, r1, LINE, 101, Some(25)),
         (two.as_slice(), 1, r1, LINE, 1001, Some(250)),
@@ -104,7 +142,7 @@ fn one_term_without_psi_classes(rt: HostRuntime) -> Result<(), Fail> {
     ] {
         let alloc = rt.alloc();
         let terms = Terms::of(vec![in alloc; term(alloc, coefficient, &[class])?]?);
-        let found = residue_at(&rt, weights, &terms, &parts, modulus)?;
+        let found = residue_at(&rt, weights, &terms, drawn, modulus)?;
         assert_eq!(rt; found, residue, "{class:?} modulo {modulus}");
     }
     Ok(())
@@ -118,19 +156,19 @@ fn several_terms_and_psi_classes(rt: HostRuntime) -> Result<(), Fail> {
     let psi = |mark: u8| Class::Psi { mark };
     let one = Terms::of(vec![in alloc; term(alloc, 1, &[power(psi(1), 1)])?]?);
     assert_eq!(rt;
-        residue_at(&rt, &two, &one, &MARKED_PATH, 101)?,
+        residue_at(&rt, &two, &one, MARKED_PATH, 101)?,
         Some(10),
         "one psi class"
     );
     let cube = Terms::of(vec![in alloc; term(alloc, 1, &[power(psi(1), 3)])?]?);
     assert_eq!(rt;
-        residue_at(&rt, &two, &cube, &MARKED_LINE, 101)?,
+        residue_at(&rt, &two, &cube, MARKED_LINE, 101)?,
         Some(19),
         "at an end"
     );
     let both = Terms::of(vec![in alloc; term(alloc, 1, &[power(psi(1), 1), power(psi(2), 1)])?]?);
     assert_eq!(rt;
-        residue_at(&rt, &two, &both, &MARKED_PATH, 101)?,
+        residue_at(&rt, &two, &both, MARKED_PATH, 101)?,
         Some(0),
         "above the dimension"
     );
@@ -146,7 +184,7 @@ fn several_terms_and_psi_classes(rt: HostRuntime) -> Result<(), Fail> {
             &[power(psi(4), 1), power(Class::Incidence { q: 2 }, 1)]
         )?,
     ]?);
-    let found = residue_at(&rt, &two, &sum, &MARKED_PATH, PRIME)?;
+    let found = residue_at(&rt, &two, &sum, MARKED_PATH, PRIME)?;
     assert_eq!(rt; found, Some(1_969_574_237_036_696_893), "two terms");
     let large = Terms::of(vec![in alloc;
         term(alloc, 7, &[power(Class::Hypersurface { b: 5 }, 1)])?,
@@ -161,11 +199,11 @@ fn several_terms_and_psi_classes(rt: HostRuntime) -> Result<(), Fail> {
             ]
         )?,
     ]?);
-    let found = residue_at(&rt, &five, &large, &STAR, PRIME)?;
-    assert_eq!(rt; found, Some(2_244_110_046_759_540_260), "a star");
+    let found = residue_at(&rt, &five, &large, STAR, PRIME)?;
+    assert_eq!(rt; found, Some(1_296_364_964_188_416_103), "a star");
     let none = Terms::of(Vec::new(alloc));
     assert_eq!(rt;
-        residue_at(&rt, &five, &none, &STAR, PRIME)?,
+        residue_at(&rt, &five, &none, STAR, PRIME)?,
         Some(0),
         "no term"
     );
@@ -173,7 +211,7 @@ fn several_terms_and_psi_classes(rt: HostRuntime) -> Result<(), Fail> {
 }
 
 fn at_number(
-    rt: &impl std::process::Abort,
+    rt: &impl Abort,
     setup: &Setup,
     terms: &Terms,
     shape: &Shape,
