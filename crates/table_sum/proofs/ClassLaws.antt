@@ -1,8 +1,9 @@
 -- The classes of terms in the table's list, and the values of classes.
-use Rattle.std.proofs.Common.{◌≡◌, ◌⊎◌, inl, inr, ℕ, ◌+◌, ◌<◌, ◌≤◌, List, length, take, get_or, map, flat_map, ℤ, pos, refl, sym, ap, subst, ◌∙◌, arith}
-use Rattle.std.proofs.lemmas.List.Concat.{get_or-flat_map}
+use Rattle.std.proofs.Common.{◌≡◌, ℕ, ◌+◌, ◌<◌, ◌≤◌, List, [], ◌∷◌, length, length-append, take, get_or, map, flat_map, ℤ, pos, refl, sym, ap, subst, ◌∙◌, arith}
+use Rattle.std.proofs.lemmas.Grind.{flat_map-append}
+use Rattle.std.proofs.lemmas.List.Concat.{get_or-flat_map, flat_map-cons}
 use Rattle.std.proofs.lemmas.List.Folds.{length-flat_map-take}
-use Rattle.std.proofs.lemmas.List.{get_or-map, length-map}
+use Rattle.std.proofs.lemmas.List.{get_or-map, length-map, take_more}
 use Rattle.arithmetic.specs.Numbers.{Leaves}
 use Rattle.arithmetic.specs.Fractions.{Fraction, fraction, IsResidue}
 use Rattle.arithmetic.proofs.Residues.{IsResidue-whole}
@@ -10,12 +11,13 @@ use Rattle.trees.specs.Decorated.{DecoratedTree}
 use Rattle.residue.specs.declared.class.Class.{Class}
 use Rattle.residue.specs.declared.class.Class.TheVariants.{Mark, Hypersurface, Incidence, R1, Contact, Psi}
 use Rattle.residue.specs.declared.class.Power.{Power}
+use Rattle.residue.specs.declared.class.Term.{Term}
 use Rattle.residue.specs.declared.ratio.Ratio.{Ratio}
 use Rattle.residue.specs.Classes.{IsClassFor}
 use Rattle.residue.specs.Ratios.{IsRatioOf}
 use Rattle.localisation.specs.ClassValue.{class_value, class_product}
 use Rattle.factor_table.specs.Factors.{HasParts}
-use Rattle.table_sum.specs.Classes.{classes_of_powers, AreClassesFrom}
+use Rattle.table_sum.specs.Classes.{classes_of_powers, classes_of_term, classes_of_terms, AreClassesFrom}
 
 -- ---- the classes of one item of a list
 pub of_item : {A : Type 0} (f : A → List Class) (classes : List Class) (first i : ℕ) (xs : List A) (x : A) → AreClassesFrom classes first (flat_map f xs) → i < length xs
@@ -30,6 +32,26 @@ of_item f classes first i xs x h below =
           ap (λ n. get_or classes n d) at ∙ h.each (length (flat_map f (take i xs)) + k) d (omega (arith, shorter, lt))
           ∙ get_or-flat_map f xs i k x d below lt;
     }
+
+pub length-next : {A : Type 0} (f : A → List Class) (xs : List A) (i n : ℕ) (x : A) → i < length xs → x ≡ get_or xs i x → n ≡ length (f x)
+    → length (flat_map f (take (i + 1) xs)) ≡ length (flat_map f (take i xs)) + n
+length-next f xs i n x below is count =
+    ap (λ ys. length (flat_map f ys)) (take_more xs i x below)
+    ∙ ap length (flat_map-append f (take i xs) (get_or xs i x ∷ []))
+    ∙ length-append (flat_map f (take i xs)) (flat_map f (get_or xs i x ∷ []))
+    ∙ ap (λ k. length (flat_map f (take i xs)) + k) (ap length (flat_map-cons f (get_or xs i x) []) ∙ length-append (f (get_or xs i x)) []
+    ∙ last (length (f (get_or xs i x))) ∙ ap (λ y. length (f y)) (sym is) ∙ sym count)
+  where
+    last : (k : ℕ) → k + 0 ≡ k
+    last k = omega arith
+
+pub item_within : (classes : List Class) (first i : ℕ) (ts : List Term) (t : Term) → AreClassesFrom classes first (classes_of_terms ts) → i < length ts → t ≡ get_or ts i t
+    → first + length (classes_of_terms (take i ts)) + length t.classes ≤ length classes
+item_within classes first i ts t h below is =
+    let own = of_item classes_of_term classes first i ts t h below in
+    let within = own.within in
+    let long : length (classes_of_term (get_or ts i t)) ≡ length t.classes = ap (λ x. length (classes_of_term x)) (sym is) ∙ length-map t.classes (λ (q : Power). q.class) in
+    omega (arith, within, long)
 
 -- the class of a power
 pub class_of_power : (classes : List Class) (first i : ℕ) (ps : List Power) (d : Class) (p : Power) → AreClassesFrom classes first (classes_of_powers ps) → i < length ps

@@ -3,3 +3,4 @@ pub mod Ends
 pub mod Trees
 pub mod Classes
 pub mod Numberings
+pub mod Problems

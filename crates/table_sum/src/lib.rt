@@ -23,6 +23,8 @@ mod column;
 mod edges;
 mod flags;
 mod numberings;
+mod terms;
+mod tree;
 mod vertex;
 
 pub use numberings::Numberings;
