@@ -1,11 +1,10 @@
 -- What the rules of a problem give for its trees and terms.
-use Rattle.std.proofs.Common.{◌≡◌, ℕ, ◌+◌, ◌*◌, ◌≤◌, ◌==◌, if◌then◌else◌, Bool, true, false, List, [], ◌∷◌, length, map, sum, sum_by, All, IsTrue, Some, subst, arith, mul-le-mul}
+use Rattle.std.proofs.Common.{◌≡◌, ℕ, ◌+◌, ◌*◌, ◌≤◌, ◌==◌, if◌then◌else◌, Bool, true, false, List, [], ◌∷◌, map, sum, sum_by, All, IsTrue, Some, sym, subst, arith, mul-le-mul}
 use Rattle.std.specs.List.{slice_get}
 use Rattle.std.proofs.lemmas.List.Elements.{All-weaker}
 use Rattle.std.proofs.lemmas.List.Sums.{sum-map, sum_by-cons}
 use Rattle.std.proofs.lemmas.Option.{get_or_from_slice_get, slice_get_within}
-use Rattle.trees.specs.Decorated.{TreeShape, is_decorated}
-use Rattle.trees.proofs.AllTrees.{parts}
+use Rattle.trees.specs.Decorated.{TreeShape}
 use Rattle.residue.specs.declared.class.Class.{Class}
 use Rattle.residue.specs.declared.class.Class.TheVariants.{Mark, Hypersurface, Incidence, R1, Contact, Psi}
 use Rattle.residue.specs.declared.class.Power.{Power}
@@ -17,9 +16,7 @@ use Rattle.decorated_tree.specs.declared.tree.Tree.{Tree}
 use Rattle.decorated_tree.specs.Shapes.{within_limits}
 use Rattle.decorated_tree.specs.Trees.{is_tree_of}
 use Rattle.decorated_tree.proofs.Counts.{limits}
-use Rattle.tree_parts.specs.declared.parts.TreeParts.{TreeParts}
-use Rattle.tree_parts.specs.Parts.{tree_of_parts, AreParts}
-use Rattle.tree_parts.proofs.DecoratedParts.{some_limits, decorated_parts}
+use Rattle.tree_parts.specs.Trees.{IsTreeOfRank}
 use Rattle.contribution.specs.Terms.{IsTermFor}
 use Rattle.problem.specs.Rules.{IsPower, IsTermOf, IsIntegralOf, powers_degree, dimension_of}
 
@@ -74,12 +71,6 @@ terms_for s integrals i terms h all e =
     let there = subst (IsIntegralOf s) (get_or_from_slice_get integrals i terms [] e) (all i [] (slice_get_within integrals i terms e)) in
     All-weaker (IsTermOf s) (IsTermFor s.marks) (term_for s h) terms there.each
 
--- ---- the trees of a problem, and their parts
-pub tree_limits : (s : TreeShape) (t : Tree) → within_limits s ≡ true → IsTrue (is_tree_of s t) → (1 ≤ t.n) × (t.n ≤ 11) × (t.m ≤ 12)
-tree_limits s t h tree = let l = limits s.rank s.degree s.marks h in some_limits t (s, l.most_degree, l.most_marks, tree)
-
-pub parts_of_tree : (s : TreeShape) (p : TreeParts) → within_limits s ≡ true → IsTrue (is_decorated s (tree_of_parts p)) → AreParts p
-parts_of_tree s p h tree = decorated_parts s p (limits s.rank s.degree s.marks h).most_degree tree
-
-pub marks_of_parts : (s : TreeShape) (p : TreeParts) → IsTrue (is_decorated s (tree_of_parts p)) → length p.marks.now ≡ s.marks
-marks_of_parts s p tree = (parts s (tree_of_parts p) tree).marks
+-- ---- the trees of a problem
+pub tree_of_rank : (s : TreeShape) (t : Tree) (rank : ℕ) → within_limits s ≡ true → rank ≡ s.rank → IsTrue (is_tree_of s t) → IsTreeOfRank rank t
+tree_of_rank s t rank h e tree = let l = limits s.rank s.degree s.marks h in (s, sym e, l.most_degree, l.most_marks, tree)

@@ -1,14 +1,13 @@
 //! The numbers whose trees are bad, and the moduli for which they are.
 
-ghost use Rattle.std.specs.Prelude.{◌≡◌, ◌≢◌, ◌<◌, ◌≤◌, ◌↔◌, true, IfSome, IsNone, IsTrue, length, slice_index};
-ghost use Rattle.decorated_tree.specs.Trees.{tree_view, is_tree_of};
+ghost use Rattle.std.specs.Prelude.{◌≡◌, ◌≢◌, ◌<◌, ◌≤◌, ◌↔◌, true, IfSome, IsNone, length, slice_index};
 ghost use Rattle.localisation.specs.Agreement.{is_bad_for, IsFirstBad, IsLeastBad, NoneBad};
 ghost use Rattle.problem.specs.Problems.{view as problem_view};
 ghost use Rattle.problem.specs.Sums.{count_of, is_bad_modulo, is_bad_of};
 
-use crate::at_tree::contribution;
-use decorated_tree::Tree;
+use crate::at_tree::{parts_of, tree_residue};
 use problem::Problem;
+use tree_parts::TreeParts;
 
 /// The index of the first modulus for which the tree of the number `k` is bad: for which its contribution to some
 /// integral has no residue. `None` if and only if the number is not bad. The number is below the number of decorated
@@ -19,8 +18,9 @@ pub fn first_bad_modulus(problem: &Problem, k: u64) -> Option<u8>
     ensures first { IfSome result (IsFirstBad (is_bad_modulo (problem_view problem.now) k) problem.now.moduli) }
 {
     let tree = problem.shape.tree(k);
+    let parts = parts_of(problem, &tree);
     for modulus in 0..problem.moduli.len() as u8 {
-        if is_bad_at(problem, &tree, modulus) {
+        if is_bad_at(problem, &parts, modulus) {
             return Some(modulus);
         }
     }
@@ -42,14 +42,14 @@ pub(crate) fn least_bad(problem: &Problem, start: u64, stop: u64) -> Option<u64>
 }
 
 /// Whether the contribution of a tree to some integral has no residue modulo the modulus at this place.
-fn is_bad_at(problem: &Problem, tree: &Tree, modulus: u8) -> bool
-    requires tree { IsTrue (is_tree_of problem.now.shape tree.now) }
+fn is_bad_at(problem: &Problem, parts: &TreeParts, modulus: u8) -> bool
+    requires shape { parts.now.shape ≡ problem.now.shape }
     requires modulus_within { modulus < length problem.now.moduli }
-    ensures { result ≡ is_bad_for problem.now.setup problem.now.integrals (tree_view tree.now)
+    ensures { result ≡ is_bad_for problem.now.setup problem.now.integrals parts.now.tree
         (slice_index problem.now.moduli modulus) }
 {
     for integral in 0..problem.integrals.len() {
-        if contribution(problem, integral as u8, tree, modulus).is_err() {
+        if tree_residue(problem, integral as u8, parts, modulus).is_err() {
             return true;
         }
     }

@@ -8,12 +8,11 @@ ghost use Rattle.problem.specs.Problems.{view as problem_view};
 ghost use Rattle.problem.specs.Sums.{count_of, is_bad_of, places_of};
 ghost use Rattle.range_sum.specs.Totals.{ratio_at, IsRatioBelow, AddsFraction, AddsResidue, AreRatiosOf};
 
-use crate::at_tree::tree_ratio;
+use crate::at_tree::{parts_of, tree_ratio};
 use crate::bad::least_bad;
 use decorated_tree::Tree;
 use problem::Problem;
 use residue::{NoUnit, Ratio};
-use tree_parts::TreeParts;
 
 /// Adds the contributions of the trees of the numbers from `start` to `stop - 1` to the sums, or tells the least of these
 /// numbers whose tree is bad for some modulus; the sums then mean nothing. It divides once for each integral and modulus.
@@ -79,7 +78,7 @@ fn add_tree(problem: &Problem, tree: &Tree, ratios: &mut [Ratio; 64])
         (contribution problem.now.setup (integral_at problem.now.moduli problem.now.integrals place) (tree_view tree.now))
         (ratio_at ratios.old place) (ratio_at ratios.new place) }
 {
-    let parts = TreeParts::of(tree);
+    let parts = parts_of(problem, tree);
     let mut place = 0;
     for integral in 0..problem.integrals.len() {
         for modulus in 0..problem.moduli.len() {

@@ -4,14 +4,7 @@ use Rattle.localisation.specs.Contribution.{contribution}
 use Rattle.localisation.specs.Agreement.{modulus_at, integral_at}
 use Rattle.range_sum.specs.Totals.{ratio_at, AddsFraction}
 use Rattle.range_sum.proofs.Places.{added_next, rest_next, below_there, ratio_below, adds_there, place_below, within_64}
-use Rattle.range_sum.proofs.ProblemTrees.{tree_limits}
 use Rattle.range_sum.proofs.block.add_tree.Goals as goal
-
-pub of-parts-requires-clause-vertices_some : goal.of-parts-requires-clause-vertices_some
-of-parts-requires-clause-vertices_some c = let p = c.args.problem.now in (tree_limits p.shape c.args.tree.now p.rules.shape c.requires.tree).0
-
-pub of-parts-requires-clause-vertices_limited : goal.of-parts-requires-clause-vertices_limited
-of-parts-requires-clause-vertices_limited c = let p = c.args.problem.now in (tree_limits p.shape c.args.tree.now p.rules.shape c.requires.tree).1
 
 pub plus-requires : goal.plus-requires
 plus-requires c =
@@ -40,7 +33,7 @@ loop-modulus-preserved c =
           c.loop-modulus.ratios c.args.ratios.now (record { top = 0; bottom = 0 }) c.plus.result place (omega arith)
           c.loop-modulus.invariant.added (c.loop-modulus.invariant.rest place (omega arith))
           (adds_there p.setup p.integrals p.moduli _ (tree_view c.args.tree.now) c.loop-integral.integral c.loop-modulus.modulus place c.get.result.now
-          (ratio_at c.loop-modulus.ratios place) c.tree_ratio-ratio.result c.plus.result at_place below c.get.ensures c.of-parts.ensures.value
+          (ratio_at c.loop-modulus.ratios place) c.tree_ratio-ratio.result c.plus.result at_place below c.get.ensures c.parts_of-parts.ensures.tree
           c.tree_ratio-ratio.ensures c.plus.ensures);
       rest = rest_next c.loop-modulus.ratios c.args.ratios.now (record { top = 0; bottom = 0 }) c.plus.result place c.loop-modulus.invariant.rest;
     }
