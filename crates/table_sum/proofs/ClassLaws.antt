@@ -1,11 +1,10 @@
 -- The classes of terms in the table's list, and the values of classes.
-use Rattle.std.proofs.Common.{◌≡◌, ℕ, ◌+◌, ◌<◌, ◌≤◌, List, [], ◌∷◌, length, length-append, take, get_or, map, flat_map, ℤ, pos, refl, sym, ap, subst, ◌∙◌, arith}
+use Rattle.std.proofs.Common.{◌≡◌, ℕ, ◌+◌, ◌<◌, ◌≤◌, List, [], ◌∷◌, length, length-append, take, get_or, flat_map, ℤ, refl, sym, ap, ◌∙◌, arith}
 use Rattle.std.proofs.lemmas.Grind.{flat_map-append}
 use Rattle.std.proofs.lemmas.List.Concat.{get_or-flat_map, flat_map-cons}
 use Rattle.std.proofs.lemmas.List.Folds.{length-flat_map-take}
 use Rattle.std.proofs.lemmas.List.{get_or-map, length-map, take_more}
-use Rattle.arithmetic.specs.Numbers.{Leaves}
-use Rattle.arithmetic.specs.Fractions.{Fraction, fraction, IsResidue}
+use Rattle.arithmetic.specs.Fractions.{IsResidue}
 use Rattle.arithmetic.proofs.Residues.{IsResidue-whole}
 use Rattle.trees.specs.Decorated.{DecoratedTree}
 use Rattle.residue.specs.declared.class.Class.{Class}
@@ -52,6 +51,13 @@ item_within classes first i ts t h below is =
     let within = own.within in
     let long : length (classes_of_term (get_or ts i t)) ≡ length t.classes = ap (λ x. length (classes_of_term x)) (sym is) ∙ length-map t.classes (λ (q : Power). q.class) in
     omega (arith, within, long)
+
+pub item_counted : (ts : List Term) (i : ℕ) (t : Term) → i < length ts → t ≡ get_or ts i t
+    → length (classes_of_terms (take i ts)) + length t.classes ≤ length (classes_of_terms ts)
+item_counted ts i t below is =
+    let shorter = length-flat_map-take classes_of_term ts i t below in
+    let long : length (classes_of_term (get_or ts i t)) ≡ length t.classes = ap (λ x. length (classes_of_term x)) (sym is) ∙ length-map t.classes (λ (q : Power). q.class) in
+    omega (arith, shorter, long)
 
 -- the class of a power
 pub class_of_power : (classes : List Class) (first i : ℕ) (ps : List Power) (d : Class) (p : Power) → AreClassesFrom classes first (classes_of_powers ps) → i < length ps

@@ -1,10 +1,9 @@
 -- The product and the sum of the flags at a vertex.
-use Rattle.std.proofs.Common.{◌≡◌, ℕ, zero, suc, ◌+◌, ◌-◌, ◌<◌, List, [], ◌∷◌, ◌++◌, length, take, get_or, ℤ, pos, ◌+ℤ◌, ◌*ℤ◌, refl, sym, ap, ap₂, ◌∙◌, arith}
+use Rattle.std.proofs.Common.{◌≡◌, ℕ, zero, suc, ◌+◌, ◌-◌, ◌<◌, List, [], ◌∷◌, ◌++◌, length, take, get_or, ℤ, pos, ◌+ℤ◌, ◌*ℤ◌, refl, sym, ap, ap₂, ◌∙◌}
 use Rattle.std.proofs.Math.IntN.{*ℤ_comm}
 use Rattle.std.proofs.lemmas.List.{map_more}
 use Rattle.arithmetic.specs.Numbers.{power}
-use Rattle.arithmetic.specs.Fractions.{Fraction, fraction, times, plus, power_of_fraction}
-use Rattle.arithmetic.proofs.NumberLaws.{*ℤ_assoc}
+use Rattle.arithmetic.specs.Fractions.{fraction, times, plus, power_of_fraction}
 use Rattle.arithmetic.proofs.FractionProducts.{times-assoc, one-times}
 use Rattle.arithmetic.proofs.FractionSums.{one-*ℤ, times-one, plus-zero, zero-plus, plus-assoc}
 use Rattle.localisation.specs.Weights.{tangent_product}

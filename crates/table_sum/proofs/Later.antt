@@ -4,7 +4,7 @@ use Rattle.factor_table.specs.declared.key.Key.{Key}
 use Rattle.factor_table.specs.declared.table.FactorTable.{FactorTable}
 use Rattle.factor_table.specs.declared.table.FactorSeat.{FactorSeat}
 use Rattle.factor_table.specs.Seats.{IsSeatOf, known_of, Knows, place_in}
-use Rattle.factor_table.proofs.Laws.{knows_now, knows_still}
+use Rattle.factor_table.proofs.Laws.{knows_still}
 use Rattle.table_sum.specs.Words.{IsLater}
 
 pub later_same : (t : FactorTable) (s : FactorSeat) → IsSeatOf s t → IsLater t s s

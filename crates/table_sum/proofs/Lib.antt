@@ -5,3 +5,5 @@ pub mod VertexLaws
 pub mod TreeKeys
 pub mod EdgeLists
 pub mod ClassLaws
+pub mod ProblemLaws
+pub mod SumLaws

@@ -1,12 +1,10 @@
 -- Residues of fractions: the steps that code takes.
-use Rattle.std.proofs.Common.{◌≡◌, ℕ, zero, suc, ◌+◌, ◌-◌, ◌*◌, ◌%◌, ◌^◌, ◌<◌, ℤ, pos, ◌-ℤ◌, ◌*ℤ◌, neg_ℤ, refl, sym, ap, subst, ◌∙◌, arith, mul_comm}
+use Rattle.std.proofs.Common.{◌≡◌, ℕ, zero, suc, ◌+◌, ◌-◌, ◌*◌, ◌%◌, ◌^◌, ◌<◌, pos, ◌-ℤ◌, ◌*ℤ◌, refl, sym, ap, subst, ◌∙◌, arith}
 use Rattle.std.proofs.lemmas.Int.{ints}
 use Rattle.std.proofs.lemmas.Nat.{mul-mod_first}
-use Rattle.std.proofs.Math.IntN.{*ℤ_comm}
-use Rattle.std.proofs.Math.Nat.{mod-lt, mod-eq_of_lt, pow-suc, pow-zero}
-use Rattle.arithmetic.specs.Numbers.{power, reduce, gcd, Leaves}
+use Rattle.std.proofs.Math.Nat.{mod-eq_of_lt, pow-suc, pow-zero}
+use Rattle.arithmetic.specs.Numbers.{reduce, Leaves}
 use Rattle.arithmetic.specs.Fractions.{Fraction, fraction, times, plus, power_of_fraction, IsResidue}
-use Rattle.arithmetic.proofs.NumberLaws.{reduce-pos, *ℤ-+ℤ}
 use Rattle.arithmetic.proofs.Modular.{Leaves-pos, Leaves-sub, Leaves-mul}
 use Rattle.arithmetic.proofs.Residues.{IsResidue-whole, IsResidue-times, IsResidue-plus}
 

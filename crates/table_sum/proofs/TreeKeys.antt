@@ -1,5 +1,5 @@
 -- The keys that a tree asks for are keys of the table.
-use Rattle.std.proofs.Common.{◌≡◌, ℕ, ◌+◌, ◌<◌, ◌≤◌, List, length, get_or, All, arith}
+use Rattle.std.proofs.Common.{ℕ, ◌<◌, ◌≤◌, length, arith}
 use Rattle.trees.specs.Decorated.{TreeShape}
 use Rattle.tree_parts.specs.declared.edges.ColouredEdge.{ColouredEdge}
 use Rattle.tree_parts.specs.Edges.{IsEdgeOf}

@@ -1,14 +1,14 @@
 -- The cases of the fraction of a vertex, by its tip and its flags.
-use Rattle.std.proofs.Common.{◌≡◌, ◌≢◌, ℕ, zero, suc, ◌+◌, ◌-◌, ◌≤◌, ◌<◌, List, [], ◌∷◌, length, sum, ℤ, pos, ◌-ℤ◌, ◌*ℤ◌, neg_ℤ, refl, sym, ap, ap₂, ◌∙◌, arith}
+use Rattle.std.proofs.Common.{◌≡◌, ◌≢◌, ℕ, suc, ◌+◌, ◌-◌, List, [], ◌∷◌, length, sum, ℤ, pos, ◌-ℤ◌, ◌*ℤ◌, neg_ℤ, refl, sym, ap, ap₂, ◌∙◌, arith}
 use Rattle.std.proofs.lemmas.Int.{ints}
 use Rattle.arithmetic.specs.Numbers.{power}
-use Rattle.arithmetic.specs.Fractions.{Fraction, fraction, times, power_of_fraction}
+use Rattle.arithmetic.specs.Fractions.{fraction, times, power_of_fraction}
 use Rattle.arithmetic.proofs.FractionSums.{*ℤ-pos-one, one-*ℤ}
 use Rattle.localisation.specs.Weights.{weight, tangent_product}
-use Rattle.localisation.specs.VertexFraction.{End, product_of_differences, product_of_degrees, crossed_sum, plain_vertex, psi_vertex, vertex_fraction, stable_vertex, stable_psi_vertex, multinomial}
-use Rattle.vertex_factor.specs.Ends.{end, ends_of}
-use Rattle.vertex_factor.proofs.PlainLaws.{plain-stable, plain-marked, length-ends_of, one_end}
-use Rattle.vertex_factor.proofs.PsiLaws.{one_end_one_mark, above_dimension, within_dimension, negated_difference}
+use Rattle.localisation.specs.VertexFraction.{End, product_of_differences, product_of_degrees, crossed_sum, plain_vertex, psi_vertex, vertex_fraction, multinomial}
+use Rattle.vertex_factor.specs.Ends.{end}
+use Rattle.vertex_factor.proofs.PlainLaws.{plain-stable}
+use Rattle.vertex_factor.proofs.PsiLaws.{one_end_one_mark, within_dimension, negated_difference}
 use Rattle.factor_table.specs.Factors.{tip_fraction}
 use Rattle.table_sum.specs.Ends.{power_at_ends}
 use Rattle.table_sum.proofs.FlagLaws.{power_at_ends-is}

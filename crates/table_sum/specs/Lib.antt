@@ -4,3 +4,4 @@ pub mod Trees
 pub mod Classes
 pub mod Numberings
 pub mod Problems
+pub mod Sums

@@ -8,6 +8,7 @@ use factor_table::{FactorSeat, FactorTable};
 use residue::{Modulus, NoUnit, Setup};
 
 /// The words of a table for one of its moduli.
+#[derive(Drop)]
 pub(crate) struct Column<'a> {
     table: &'a FactorTable,
     /// The modulus.

@@ -18,13 +18,16 @@
 //! cancel. Then the answer is `NoUnit`, and the caller takes the sum without the table.
 #![tactic(auto)]
 
+mod block;
 mod classes;
 mod column;
 mod edges;
 mod flags;
 mod numberings;
+mod sum;
 mod terms;
 mod tree;
 mod vertex;
 
 pub use numberings::Numberings;
+pub use sum::TableSum;

@@ -1,4 +1,4 @@
-use Rattle.std.proofs.Common.{get_or, map, take, pos, subst, All, arith}
+use Rattle.std.proofs.Common.{get_or, pos, subst, All, arith}
 use Rattle.std.proofs.lemmas.List.Elements.{All-get_or}
 use Rattle.arithmetic.specs.Fractions.{product_of_fractions}
 use Rattle.arithmetic.proofs.Residues.{IsResidue-whole}

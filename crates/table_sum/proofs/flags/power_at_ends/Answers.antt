@@ -1,6 +1,5 @@
 use Rattle.std.proofs.Common.{length, ◌-◌, sym, subst}
 use Rattle.arithmetic.specs.Fractions.{IsResidue}
-use Rattle.vertex_factor.specs.Ends.{ends_of}
 use Rattle.vertex_factor.proofs.PlainLaws.{length-ends_of}
 use Rattle.factor_table.specs.Seats.{parameters_of}
 use Rattle.table_sum.specs.Ends.{tangent_power}

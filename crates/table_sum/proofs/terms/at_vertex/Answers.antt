@@ -1,6 +1,6 @@
 use Rattle.std.proofs.Common.{◌∙◌, map, sym, ap, subst, All}
 use Rattle.std.proofs.lemmas.List.Elements.{All-weaker}
-use Rattle.localisation.specs.ClassValue.{exponent_of, exponents_at, colour_of, ends_at}
+use Rattle.localisation.specs.ClassValue.{exponent_of, colour_of, ends_at}
 use Rattle.localisation.specs.VertexFraction.{vertex_fraction}
 use Rattle.vertex_factor.specs.Ends.{ends_of}
 use Rattle.tree_parts.specs.Ends.{IsEndOf}

@@ -1,4 +1,4 @@
-use Rattle.std.proofs.Common.{◌≡◌, ◌+◌, length, take, get_or, pos, sym, ap, ◌∙◌, subst, arith}
+use Rattle.std.proofs.Common.{◌+◌, length, take, pos, sym, subst, arith}
 use Rattle.std.proofs.lemmas.List.{take_all, length-map}
 use Rattle.arithmetic.specs.Fractions.{IsResidue}
 use Rattle.arithmetic.proofs.Residues.{IsResidue-whole}

@@ -1,5 +1,5 @@
-use Rattle.std.proofs.Common.{sym, subst}
-use Rattle.arithmetic.specs.Fractions.{times, IsResidue}
+use Rattle.std.proofs.Common.{subst}
+use Rattle.arithmetic.specs.Fractions.{IsResidue}
 use Rattle.arithmetic.proofs.FractionProducts.{times-assoc}
 use Rattle.localisation.specs.Contribution.{contribution, edge_factors}
 use Rattle.contribution.specs.Terms.{sum_of_terms}

@@ -1,6 +1,5 @@
-use Rattle.std.proofs.Common.{◌≡◌, ◌+◌, ◌-◌, length, pos, sym, subst, arith}
+use Rattle.std.proofs.Common.{◌≡◌, ◌+◌, ◌-◌, length, pos, subst, arith}
 use Rattle.std.proofs.lemmas.Bool.Decides.{nat_tests}
-use Rattle.arithmetic.specs.Fractions.{IsResidue}
 use Rattle.arithmetic.proofs.Residues.{IsResidue-whole}
 use Rattle.vertex_factor.specs.Ends.{ends_of}
 use Rattle.vertex_factor.proofs.PlainLaws.{length-ends_of, plain-marked}
