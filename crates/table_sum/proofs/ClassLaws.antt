@@ -1,9 +1,9 @@
 -- The classes of terms in the table's list, and the values of classes.
-use Rattle.std.proofs.Common.{◌≡◌, ℕ, ◌+◌, ◌<◌, ◌≤◌, List, [], ◌∷◌, length, length-append, take, get_or, flat_map, ℤ, refl, sym, ap, ◌∙◌, arith}
+use Rattle.std.proofs.Common.{◌≡◌, ℕ, ◌+◌, ◌<◌, ◌≤◌, List, [], ◌∷◌, ◌++◌, length, length-append, take, get_or, flat_map, ℤ, refl, sym, ap, ◌∙◌, arith}
 use Rattle.std.proofs.lemmas.Grind.{flat_map-append}
 use Rattle.std.proofs.lemmas.List.Concat.{get_or-flat_map, flat_map-cons}
 use Rattle.std.proofs.lemmas.List.Folds.{length-flat_map-take}
-use Rattle.std.proofs.lemmas.List.{get_or-map, length-map, take_more}
+use Rattle.std.proofs.lemmas.List.{get_or-map, length-map, take_more, flat_map_more}
 use Rattle.arithmetic.specs.Fractions.{IsResidue}
 use Rattle.arithmetic.proofs.Residues.{IsResidue-whole}
 use Rattle.trees.specs.Decorated.{DecoratedTree}
@@ -89,3 +89,10 @@ whole_value ws (Incidence q) g marks m ratio h none r = IsResidue-whole _ r.top
 whole_value ws (R1 k) g marks m ratio h none r = absurd (none h.parameter)
 whole_value ws Contact g marks m ratio h none r = absurd (none tt)
 whole_value ws (Psi mark) g marks m ratio h none r = IsResidue-whole _ r.top
+
+-- ---- the classes are listed one after another
+pub flat-next : {A : Type 0} (f : A → List Class) (initial old new : List Class) (xs : List A) (i : ℕ) (x : A) → i < length xs → x ≡ get_or xs i x
+    → old ≡ initial ++ flat_map f (take i xs) → new ≡ old ++ f x → new ≡ initial ++ flat_map f (take (i + 1) xs)
+flat-next f initial old new xs i x below is before added =
+    added ∙ ap (λ cs. cs ++ f x) before ∙ ap (λ y. (initial ++ flat_map f (take i xs)) ++ f y) is
+    ∙ flat_map_more f initial (take i xs) (get_or xs i x) ∙ ap (λ ys. initial ++ flat_map f ys) (sym (take_more xs i x below))

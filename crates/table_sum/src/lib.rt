@@ -24,10 +24,12 @@ mod column;
 mod edges;
 mod flags;
 mod numberings;
+mod opening;
 mod sum;
 mod terms;
 mod tree;
 mod vertex;
 
 pub use numberings::Numberings;
+pub use opening::problem_table;
 pub use sum::TableSum;
