@@ -57,8 +57,8 @@ built_words words r a = by_rule a.rule a.items (only_rule a.rule a.known) a.is_u
         let rest : h.rest ≡ name ∷ [] = same ∙ is in
         let plain_name : list_all is_plain (name ∷ []) ≡ true = subst (λ ws. list_all is_plain ws ≡ true) rest all in
         let request : run_asked (plains_in items) (values_of items) ≡ Some (sum_alone name) =
-            ap (λ ws. run_asked ws (values_of items)) is
-            ∙ alone name (values_of items) (named (options_in items) none (codes "workers")) (named (options_in items) none (codes "budget")) (named (options_in items) none (codes "stop-file")) in (
+        ap (λ ws. run_asked ws (values_of items)) is
+        ∙ alone name (values_of items) (named (options_in items) none (codes "workers")) (named (options_in items) none (codes "budget")) (named (options_in items) none (codes "stop-file")) in (
           h.first,
           name,
           h.split ∙ ap (λ ws. h.first ∷ codes "run" ∷ ws) rest,
