@@ -1,5 +1,5 @@
 -- Objects of the outside in memory, as contracts see them.
-use Rattle.std.specs.Prelude.{◌≡◌, ℕ, ◌+◌, ◌-◌, ◌^◌, min, List, Bool, Option, length}
+use Rattle.std.specs.Prelude.{◌≡◌, ℕ, ◌+◌, ◌-◌, ◌^◌, min, List, Bool, false, Option, length, get_or}
 use Rattle.locus_io.specs.Content.{NamedFiles}
 
 -- one more, up to the last value of a count
@@ -32,3 +32,14 @@ taken_of sink length_of_piece = min (min length_of_piece sink.most) (sink.room -
 -- the room is used up
 abbrev pub IsFull : SinkInMemory → Type 0
 IsFull sink = sink.room - length sink.written ≡ 0
+
+-- the answers in order, how often a stopper was asked, and what was counted so far
+pub record StopperInMemory : Type 0 where
+  pub answers : List Bool
+  pub asked : ℕ
+  pub stops : ℕ
+  pub last_stop : Option (List ℕ)
+
+-- the answer to a question, counted from 0: no after the end of the answers
+abbrev pub answer_at : List Bool → ℕ → Bool
+answer_at answers question = get_or answers question false

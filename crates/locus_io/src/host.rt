@@ -2,7 +2,8 @@
 
 ghost use Rattle.std.specs.Prelude.{◌≡◌, ◌≤◌, None, IfOk, vec_len, option_map, string_bytes};
 
-use crate::outside::{Failed, Files, LoadError, Sink};
+use crate::outside::{Failed, Files, LoadError, Sink, Stopper};
+use residue::NoMemory;
 use std::alloc::Global;
 use std::io::{ErrorKind, Read, Stderr, Stdout, Write};
 use std::{fs, rt};
@@ -150,5 +151,53 @@ impl<W: Write> Sink for HostSink<W> {
                 Err(Failed)
             }
         }
+    }
+}
+
+/// A file of the host as the sign to stop.
+#[derive(Drop)]
+pub struct HostStopper<R: rt::Files + Drop> {
+    runtime: R,
+    stops: u64,
+    last_stop: Option<String>,
+}
+
+impl<R: rt::Files + Drop> HostStopper<R> {
+    /// A stopper that looks among the files that `runtime` reaches.
+    pub fn new(runtime: R) -> HostStopper<R>
+        ensures stops { ⟦<HostStopper<R> as Stopper>⟧.stops result ≡ 0 }
+        ensures last_stop { ⟦<HostStopper<R> as Stopper>⟧.last_stop result ≡ None }
+    {
+        HostStopper {
+            runtime,
+            stops: 0,
+            last_stop: None,
+        }
+    }
+}
+
+// Whether a file of this name is there. A look that fails for another cause than memory is a no.
+fn is_there<R: rt::Files>(runtime: &R, name: &str) -> Result<bool, NoMemory> {
+    match fs::exists(runtime, name) {
+        Ok(found) => Ok(found),
+        Err(error) if error.kind() == ErrorKind::OutOfMemory => Err(NoMemory),
+        Err(_) => Ok(false),
+    }
+}
+
+impl<R: rt::Files + Drop> Stopper for HostStopper<R> {
+    ghost stops = { λ stopper. stopper.stops };
+
+    ghost last_stop = { λ stopper. option_map string_bytes stopper.last_stop };
+
+    // The name is copied before the file is touched, so that a stop can be noted without memory.
+    fn ask(&mut self, alloc: Global, name: &str) -> Result<bool, NoMemory> {
+        let name_copy = String::from_str(alloc, name)?;
+        if !is_there(&self.runtime, name)? {
+            return Ok(false);
+        }
+        self.stops = self.stops.saturating_add(1);
+        self.last_stop = Some(name_copy);
+        Ok(true)
     }
 }

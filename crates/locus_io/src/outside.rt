@@ -1,9 +1,10 @@
 //! The traits of the outside.
 
-ghost use Rattle.std.specs.Prelude.{◌≡◌, ◌≢◌, ◌<◌, ◌≤◌, ℕ, List, Bool, Option, Some, IfOk, IfSome, IsTrue, length, take, vec_len, option_map, OnOk, OnErr};
+ghost use Rattle.std.specs.Prelude.{◌≡◌, ◌≢◌, ◌<◌, ◌≤◌, ℕ, List, Bool, true, Option, Some, IfOk, IfSome, IsTrue, length, take, vec_len, option_map, OnOk, OnErr};
 ghost use Rattle.locus_io.specs.Causes.{HasCause, RoseBy, Stayed};
 ghost use Rattle.locus_io.specs.Content.{NamedFiles, file_of, Appends};
 
+use residue::NoMemory;
 use std::alloc::Global;
 
 /// A call of the outside failed, and its object counted a fault.
@@ -73,4 +74,25 @@ pub trait Sink {
         ensures bytes { written self.new ≡ written self.old }
         ensures flushed { OnOk result (IsTrue (is_flushed self.new)) }
         ensures cause { HasCause (faults self.old) (faults self.new) result };
+}
+
+/// Who may ask for a stop.
+///
+/// A count of stops never falls, and stays at its last value, 2^64 - 1.
+pub trait Stopper {
+    // How many stops were asked for so far.
+    ghost stops: { Self → ℕ };
+
+    // The name under which a stop was asked for last.
+    ghost last_stop: { Self → Option (List ℕ) };
+
+    /// Whether a stop is asked for now, under this name.
+    ///
+    /// # Errors
+    /// `NoMemory` where the allocator refused memory.
+    fn ask(&mut self, alloc: Global, name: &str) -> Result<bool, NoMemory>
+        ensures stop { result ≡ Ok true →
+            RoseBy (stops self.old) (stops self.new) name.now (last_stop self.new) }
+        ensures kept { result ≢ Ok true →
+            Stayed (stops self.old) (stops self.new) (last_stop self.old) (last_stop self.new) };
 }

@@ -1,0 +1,5 @@
+pub mod RoundLaws
+pub mod Summed
+pub mod Running
+pub mod ChainLaws
+mod Worked

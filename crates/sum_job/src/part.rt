@@ -1,0 +1,41 @@
+//! What one worker gathers.
+
+ghost use Rattle.std.specs.Prelude.{◌≡◌, [], replicate};
+ghost use Rattle.claim_table.specs.Counts.{nothing_bad};
+ghost use Rattle.sum_job.specs.Parts.{JobView, IsReady, StandsFor, KeepsJob};
+
+use claim_table::NOTHING_BAD;
+
+/// The sums of the blocks that one worker worked.
+#[derive(Debug, Drop)]
+pub struct PartSum {
+    /// The residues of the sums, integral by integral and within one integral modulus by modulus. They mean nothing where
+    /// a block had a bad number, or was passed over.
+    pub sums: [u64; 64],
+    /// The least bad number that was told, or 2^64 - 1.
+    pub least: u64,
+}
+
+impl PartSum {
+    /// The part of a worker that worked no block. It takes no memory.
+    pub fn new() -> PartSum
+        ensures sums { result.sums ≡ replicate 64 0 }
+        ensures least { result.least ≡ nothing_bad }
+        ensures empty { (job : JobView) → KeepsJob job → IsReady job result × StandsFor job result [] }
+    {
+        PartSum {
+            sums: [0; 64],
+            least: NOTHING_BAD,
+        }
+    }
+
+    /// Forgets all blocks that were worked. It takes no memory.
+    pub fn clear(&mut self)
+        ensures sums { self.new.sums ≡ replicate 64 0 }
+        ensures least { self.new.least ≡ nothing_bad }
+        ensures empty { (job : JobView) → KeepsJob job → IsReady job self.new × StandsFor job self.new [] }
+    {
+        self.sums = [0; 64];
+        self.least = NOTHING_BAD;
+    }
+}
