@@ -8,7 +8,7 @@ use std::marker::Model;
 
 /// At most twelve exponents, one for each mark at a vertex.
 #[derive(Drop)]
-pub(crate) struct Exponents {
+pub struct Exponents {
     items: [u8; 12],
     count: usize,
 }
@@ -44,7 +44,7 @@ impl Exponents {
     }
 
     /// The exponents.
-    pub(crate) fn as_slice(&self) -> &[u8]
+    pub fn as_slice(&self) -> &[u8]
         ensures value { result.now ≡ self.now }
         ensures limited { length self.now ≤ 12 }
     {
@@ -52,8 +52,9 @@ impl Exponents {
     }
 }
 
-/// The exponents of a term at marks, which are counted from 1, in their order.
-pub(crate) fn exponents_of(term: &Term, marks: &[u8]) -> Exponents
+/// The exponents of a term at marks, which are counted from 1, in their order. There are at most 12 marks, and the
+/// exponent of each mark in the term is at most 151.
+pub fn exponents_of(term: &Term, marks: &[u8]) -> Exponents
     requires marks_limited { length marks.now ≤ 12 }
     requires exponents_limited { (j : ℕ) → exponent_of term.now j ≤ 151 }
     ensures { result ≡ map (exponent_of term.now) marks.now }

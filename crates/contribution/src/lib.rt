@@ -11,6 +11,7 @@ mod limits;
 mod sum;
 
 pub use at_tree::tree_contribution;
+pub use exponents::{Exponents, exponents_of};
 pub use limits::{are_terms_for, is_term_for};
 pub use sum::{contribution, contribution_ratio};
 

@@ -47,7 +47,7 @@ total-times (u ∷ us) d g = ap (λ z. d *ℤ g u +ℤ z) (total-times us d g) �
 swapped : (a d p : ℤ) → a *ℤ (d *ℤ p) ≡ d *ℤ (a *ℤ p)
 swapped a d p = sym (*ℤ_assoc a d p) ∙ ap (λ z. z *ℤ p) (*ℤ_comm a d) ∙ *ℤ_assoc d a p
 
-crossed-cons : (ws : List ℤ) (c : ℕ) (e : End) (es : List End)
+pub crossed-cons : (ws : List ℤ) (c : ℕ) (e : End) (es : List End)
     → crossed_sum ws c (e ∷ es) ≡ pos e.degree *ℤ product_of_differences ws c es +ℤ difference ws c e *ℤ crossed_sum ws c es
 crossed-cons ws c e es =
     total-first (length es) (λ u. pos (degree_at (e ∷ es) u) *ℤ product_of_differences ws c (remove (e ∷ es) u))

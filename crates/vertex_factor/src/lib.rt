@@ -31,7 +31,7 @@ mod psi;
 mod sums;
 
 pub use plain::{flag, pair, tangent, vertex, vertex_ratio};
-pub use psi::{vertex_psi, vertex_psi_ratio};
+pub use psi::{multinomial, vertex_psi, vertex_psi_ratio};
 
 #[cfg(test)]
 mod tests;

@@ -114,8 +114,9 @@ fn stable_psi(setup: &Setup, c: u8, ends: &[(u8, u8)], exponents: &[u8], modulus
     }
 }
 
-/// The multinomial coefficient of `n`, at most 19, over the exponents and what is left.
-fn multinomial(n: u64, exponents: &[u8]) -> u64
+/// The multinomial coefficient of `n`, at most 19, over the exponents and what is left: `n!` over the product of the
+/// factorials of the exponents and of `n` less their sum. There are at most 12 exponents, and their sum is at most `n`.
+pub fn multinomial(n: u64, exponents: &[u8]) -> u64
     requires limited { n ≤ 19 }
     requires marks_limited { length exponents.now ≤ 12 }
     requires within { sum exponents.now ≤ n }

@@ -1,0 +1,15 @@
+use Rattle.std.proofs.Common.{sym, subst}
+use Rattle.arithmetic.specs.Fractions.{IsResidue}
+use Rattle.factor_table.specs.Seats.{parameters_of}
+use Rattle.table_sum.specs.Numberings.{one_numbering}
+use Rattle.table_sum.proofs.Powers.{residue_times}
+use Rattle.table_sum.proofs.tree.start_residue.Goals as goal
+
+pub returns-clause-value : goal.returns-clause-value
+returns-clause-value c =
+    let column = c.args.column.now in
+    let p = parameters_of column.table.now in
+    let at_index = (c.in_ok-numbering.ensures p.moduli column.within c.requires.numberings).value in
+    let at_modulus = subst (λ m. IsResidue m (one_numbering c.vertices.result) c.in_ok-numbering.numbering) (sym column.is_modulus) at_index in
+    let numbering = subst (λ n. IsResidue column.modulus.now (one_numbering n) c.in_ok-numbering.numbering) c.vertices.ensures.value at_modulus in
+    residue_times column.above numbering c.in_ok-edges.ensures.value c.mul.ensures.value
