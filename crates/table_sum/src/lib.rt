@@ -33,3 +33,6 @@ mod vertex;
 pub use numberings::Numberings;
 pub use opening::problem_table;
 pub use sum::TableSum;
+
+#[cfg(test)]
+mod tests;
