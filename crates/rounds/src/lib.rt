@@ -12,6 +12,3 @@ mod round;
 
 pub use advancing::{advance, advance_problem};
 pub use progress::{Outcome, Progress};
-
-#[cfg(test)]
-mod tests;

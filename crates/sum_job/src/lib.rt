@@ -12,6 +12,3 @@ mod sums;
 pub use job::LocusJob;
 pub use part::PartSum;
 pub use sums::{add_parts, add_residues};
-
-#[cfg(test)]
-mod tests;
