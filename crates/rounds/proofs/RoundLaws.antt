@@ -10,6 +10,7 @@ use Rattle.localisation.specs.Agreement.{modulus_at, integral_at, NoneBad, IsLea
 use Rattle.problem.specs.Rules.{ProblemView}
 use Rattle.problem.specs.Sums.{places_of, is_bad_of}
 use Rattle.checkpoint.specs.States.{AreResidues}
+use Rattle.factor_table.specs.declared.table.FactorTable.{FactorTable}
 use Rattle.claim_table.specs.Counts.{nothing_bad}
 use Rattle.claim_table.specs.Claims.{plan}
 use Rattle.worker_pool.specs.Rounds as pool
@@ -129,27 +130,27 @@ pub residues_reduced : (p : ProblemView) (residues : List ℕ) → AreResidues p
 residues_reduced p residues h place within = h.below place (let e = h.one_each in omega arith)
 
 -- ---- from the pool's words to those of a round
-abbrev pub job_of : ProblemView → ℕ → ℕ → JobView
-job_of p first end = record { problem = p; first = first; end = end }
+abbrev pub job_of : ProblemView → FactorTable → ℕ → ℕ → JobView
+job_of p t first end = record { problem = p; table = t; first = first; end = end }
 
-pub least_of_range : (job : JobView) (p : ProblemView) (first end blocks number : ℕ) → job ≡ job_of p first end → blocks ≡ block_count job.first job.end
+pub least_of_range : (job : JobView) (p : ProblemView) (t : FactorTable) (first end blocks number : ℕ) → job ≡ job_of p t first end → blocks ≡ block_count job.first job.end
     → pool.IsLeastBad (least_bad_of job) blocks number → number ≢ nothing_bad → number < 2 ^ 64 → IsLeastBad (is_bad_of p) first end number
-least_of_range job p first end blocks number e b h apart fits =
+least_of_range job p t first end blocks number e b h apart fits =
     subst (λ (j : JobView). IsLeastBad (is_bad_of j.problem) j.first j.end number) e
     (least_number job number (subst (λ n. pool.IsLeastBad (least_bad_of job) n number) b h) (less number apart fits))
   where
     less : (n : ℕ) → n ≢ nothing_bad → n < 2 ^ 64 → n < nothing_bad
     less n ne lt = grind arith
 
-pub round_is_clean : (job : JobView) (p : ProblemView) (first end blocks number : ℕ) (owners : List ℕ) (parts after : List PartSum) (old new : List ℕ)
-    → job ≡ job_of p first end → blocks ≡ block_count job.first job.end → KeepsJob job → first < end
+pub round_is_clean : (job : JobView) (p : ProblemView) (t : FactorTable) (first end blocks number : ℕ) (owners : List ℕ) (parts after : List PartSum) (old new : List ℕ)
+    → job ≡ job_of p t first end → blocks ≡ block_count job.first job.end → KeepsJob job → first < end
     → pool.IsLeastBad (least_bad_of job) blocks number → number ≡ nothing_bad
     → All (λ part. IsReady job part × StandsFor job part []) parts → length after ≡ length parts
     → IsCleanRound (StandsFor job) (plan blocks (length parts)) owners parts after
     → AreResidues p old → length new ≡ length old → AreReduced p new
     → ((place : ℕ) → place < places_of p → slice_index new place ≡ (slice_index old place + sum_by (sum_at place) after) % modulus_at p.moduli place)
     → NoneBad (is_bad_of p) first end × AreResidues p new × GrewByNumbers p first end old new
-round_is_clean job p first end blocks number owners parts after old new e b rules order least none empty long clean was same reduced added =
+round_is_clean job p t first end blocks number owners parts after old new e b rules order least none empty long clean was same reduced added =
     let no_bad : (block : ℕ) → block < block_count job.first job.end → least_bad_of job block ≡ None =
     (subst (λ n. pool.IsLeastBad (least_bad_of job) n number) b least).clean none in
     let is_first = ap (λ (j : JobView). j.first) e in

@@ -1,10 +1,12 @@
 //! Rounds under a budget.
 
-ghost use Rattle.std.specs.Prelude.{◌≡◌, ◌≢◌, ◌<◌, ◌≤◌, ◌^◌, ℕ, List, true, Ok, IfOk, IfSome, OnErr};
+ghost use Rattle.std.specs.Prelude.{◌≡◌, ◌≢◌, ◌<◌, ◌≤◌, ◌^◌, ℕ, List, true, All, length, Ok, IfOk, IfSome, OnErr};
 ghost use Rattle.problem.specs.Problems.{view as problem_view};
 ghost use Rattle.problem.specs.Sums.{count_of};
 ghost use Rattle.checkpoint.specs.States.{AreResidues};
 ghost use Rattle.locus_io.specs.Causes.{RoseBy, Stayed};
+ghost use Rattle.factor_table.specs.Seats.{IsSeatOf};
+ghost use Rattle.table_sum.specs.Sums.{problem_of, table_of};
 ghost use Rattle.rounds.specs.Outcomes.{sum_of, ended, IsEarly, IsOfProblem, IsProgress, KeepsTruth};
 ghost use Rattle.rounds.specs.Chains.{IsChain, IsEndOfChain};
 
@@ -17,6 +19,8 @@ use problem::Problem;
 use residue::{NoMemory, Residues};
 use std::alloc::Global;
 use std::thread::Threads;
+use sum_job::PartSum;
+use table_sum::{TableSum, problem_table};
 use worker_pool::{Gate, Shares};
 
 /// How many numbers a round has; the last may have fewer.
@@ -29,9 +33,11 @@ const ROUND: u64 = 65_536;
 /// used up; a name for stops was given and the stopper, which is asked now about that name, says yes. If no tree is left at
 /// the start, the call is done at once.
 ///
+/// All workers share a table of factors, which the call makes before its first round and fills as it goes.
+///
 /// # Errors
-/// `NoMemory` where there is no memory for the residues, the parts of the workers, the claims of a round, or a question to
-/// the stopper.
+/// `NoMemory` where there is no memory for the table of factors, the residues, the parts of the workers, the claims of a
+/// round, or a question to the stopper.
 pub fn advance_problem<R: Threads + Sync, S: Stopper, G: Gate>(
     rt: &R,
     alloc: Global,
@@ -75,8 +81,20 @@ pub fn advance_problem<R: Threads + Sync, S: Stopper, G: Gate>(
     ensures refused { OnErr result
         (Stayed (S.stops stopper.old) (S.stops stopper.new) (S.last_stop stopper.old) (S.last_stop stopper.new)) }
 {
+    let (table, seats) = problem_table(alloc, problem, workers)?;
+    let mut parts = new_parts(alloc, seats)?;
+    let sum = TableSum::of(problem, &table);
     run_rounds(
-        rt, alloc, problem, next, residues, budget, workers, stop_name, gate, stopper,
+        rt,
+        alloc,
+        &sum,
+        next,
+        residues,
+        budget,
+        parts.as_mut_slice(),
+        stop_name,
+        gate,
+        stopper,
     )
 }
 
@@ -123,51 +141,51 @@ pub fn advance<R: Threads + Sync, S: Stopper, G: Gate>(
     )
 }
 
-/// Runs rounds until one of the ends is reached.
+/// Runs rounds until one of the ends is reached, on as many workers as there are parts, whose seats are of the table.
 fn run_rounds<R: Threads + Sync, S: Stopper, G: Gate>(
     rt: &R,
     alloc: Global,
-    problem: &Problem,
+    sum: &TableSum,
     next: u64,
     residues: &[u64],
     budget: u64,
-    workers: u32,
+    parts: &mut [PartSum],
     stop_name: Option<&str>,
     gate: &G,
     stopper: &mut S,
 ) -> Result<Progress, NoMemory>
-    requires next { next ≤ count_of (problem_view problem.now) }
-    requires residues { AreResidues (problem_view problem.now) residues.now }
+    requires next { next ≤ count_of (problem_view (problem_of sum.now)) }
+    requires residues { AreResidues (problem_view (problem_of sum.now)) residues.now }
     requires budget { (0 < budget) × (budget ≤ 2 ^ 40) }
-    requires workers { (0 < workers) × (workers ≤ 64) }
+    requires parts { (0 < length parts.old) × (length parts.old ≤ 64) }
+    requires seats { All (λ part. IsSeatOf part.seat (table_of sum.now)) parts.old }
     ensures progress { IfOk result (IsProgress
-        (record { problem = problem_view problem.now; next = next; residues = residues.now }) budget workers) }
+        (record { problem = problem_view (problem_of sum.now); next = next; residues = residues.now }) budget (length parts.old)) }
     ensures stopped { IfOk result (λ progress. IsEarly
-        (record { problem = problem_view problem.now; next = next; residues = residues.now }) budget progress.outcome
+        (record { problem = problem_view (problem_of sum.now); next = next; residues = residues.now }) budget progress.outcome
         → IfSome stop_name.entry (λ name. RoseBy (S.stops stopper.old) (S.stops stopper.new) name.now (S.last_stop stopper.new))) }
     ensures kept { IfOk result (λ progress. ¬ IsEarly
-        (record { problem = problem_view problem.now; next = next; residues = residues.now }) budget progress.outcome
+        (record { problem = problem_view (problem_of sum.now); next = next; residues = residues.now }) budget progress.outcome
         → Stayed (S.stops stopper.old) (S.stops stopper.new) (S.last_stop stopper.old) (S.last_stop stopper.new)) }
     ensures refused { OnErr result
         (Stayed (S.stops stopper.old) (S.stops stopper.new) (S.last_stop stopper.old) (S.last_stop stopper.new)) }
 {
-    let count = problem.shape.count();
+    let count = sum.problem().shape.count();
     let end = count.min(next + budget);
     let mut sums = Vec::from_slice(alloc, residues)?;
-    let mut parts = new_parts(alloc, workers)?;
-    let mut shares = Shares::new(workers);
+    let mut shares = Shares::new(parts.len() as u32);
     let mut at = next;
     while at < end {
         let stop = at + ROUND.min(end - at);
         let found = sum_round(
             rt,
             alloc,
-            problem,
+            sum,
             at,
             stop,
             gate,
             sums.as_mut_slice(),
-            parts.as_mut_slice(),
+            parts,
             &mut shares,
         )?;
         if let Some(bad) = found {

@@ -3,3 +3,4 @@ pub mod Places
 pub mod PartLaws
 pub mod Orders
 pub mod Together
+pub mod Shared

@@ -12,7 +12,7 @@ use Rattle.localisation.specs.Agreement.{modulus_at, integral_at}
 use Rattle.claim_table.specs.Counts.{nothing_bad, least_of}
 use Rattle.worker_pool.specs.Rounds.{at_most, answers, blocks_of}
 use Rattle.sum_job.specs.declared.part.PartSum.{PartSum}
-use Rattle.sum_job.specs.Parts.{JobView, least_bad_of, block_sum, sum_of_blocks, StandsFor}
+use Rattle.sum_job.specs.Parts.{JobView, least_bad_of, block_sum, sum_of_blocks, IsWorked, KnowsBlock, StandsFor}
 
 -- the sums over the same blocks in another order
 pub sum_of_blocks-order : (job : JobView) (xs ys : List ℕ) (terms : List Term) → IsPermutation xs ys → sum_of_blocks job ys terms ≡ sum_of_blocks job xs terms
@@ -72,4 +72,5 @@ any_order job part xs ys p stands =
           let again = least-order (least_bad_of job) ys xs back in
           let is = stands.least in
           omega arith;
+      edges = All-permutation (λ (q : ℕ × ℕ). IsWorked job q → KnowsBlock job part.seat q.0) xs ys p stands.edges;
     }

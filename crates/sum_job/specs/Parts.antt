@@ -1,5 +1,6 @@
 -- The blocks of a range of numbers, and what a worker's part stands for.
-use Rattle.std.specs.Prelude.{◌≡◌, ℕ, zero, suc, ◌+◌, ◌-◌, ◌*◌, ◌/◌, ◌%◌, ◌<◌, Bool, List, Option, Some, None, if◌then◌else◌, length, map, min, slice_index, All}
+use Rattle.std.specs.Prelude.{◌≡◌, ℕ, zero, suc, ◌+◌, ◌-◌, ◌*◌, ◌/◌, ◌%◌, ◌<◌, ◌≤◌, Bool, List, Option, Some, None, if◌then◌else◌, length, map, min, slice_index, All}
+use Rattle.trees.specs.Numbers.{tree_of}
 use Rattle.arithmetic.specs.Fractions.{Fraction, sum_of_fractions, IsResidue}
 use Rattle.residue.specs.declared.class.Term.{Term}
 use Rattle.localisation.specs.Contribution.{partial_sum}
@@ -8,11 +9,16 @@ use Rattle.problem.specs.Rules.{ProblemView, KeepsRules}
 use Rattle.problem.specs.Sums.{places_of, is_bad_of}
 use Rattle.claim_table.specs.Counts.{nothing_bad, least_of}
 use Rattle.worker_pool.specs.Rounds.{blocks_of, answers}
+use Rattle.factor_table.specs.declared.table.FactorTable.{FactorTable}
+use Rattle.factor_table.specs.declared.table.FactorSeat.{FactorSeat}
+use Rattle.factor_table.specs.Seats.{IsSeatOf}
+use Rattle.table_sum.specs.Trees.{KnowsEdges}
 use Rattle.sum_job.specs.declared.part.PartSum.{PartSum}
 
--- the trees of a problem of the numbers from first to end - 1
+-- the trees of a problem of the numbers from first to end - 1, and the table of its factors
 pub record JobView : Type 0 where
   pub problem : ProblemView
+  pub table : FactorTable
   pub first : ℕ
   pub end : ℕ
 
@@ -57,13 +63,28 @@ AreReduced p residues = (place : ℕ) → place < places_of p → slice_index re
 abbrev pub sum_at : ℕ → PartSum → ℕ
 sum_at place part = slice_index part.sums place
 
--- a part may be handed to a worker: there are 64 sums, of which the used ones are residues
+-- a part's sums may grow: there are 64, of which the used ones are residues
 pub record IsReadyFor (p : ProblemView) (part : PartSum) : Type 0 where
   pub places : length part.sums ≡ 64
   pub reduced : AreReduced p part.sums
 
-abbrev pub IsReady : JobView → PartSum → Type 0
-IsReady job = IsReadyFor job.problem
+-- a part may be handed to a worker: its sums may grow, and its seat is one of the job's table
+pub record IsReady (job : JobView) (part : PartSum) : Type 0 where
+  pub sums : IsReadyFor job.problem part
+  pub seat : IsSeatOf part.seat job.table
+
+-- the seat knows the word of each edge of the trees of the numbers from start to stop - 1, for each modulus
+abbrev pub KnowsNumbers : JobView → FactorSeat → ℕ → ℕ → Type 0
+KnowsNumbers job seat start stop = (k : ℕ) → start ≤ k → k < stop
+    → (index : ℕ) → index < length job.problem.moduli → KnowsEdges seat job.table (tree_of job.problem.shape k) index
+
+-- .. and of those of a block
+abbrev pub KnowsBlock : JobView → FactorSeat → ℕ → Type 0
+KnowsBlock job seat block = KnowsNumbers job seat (block_start job block) (block_stop job block)
+
+-- a block is passed over if it begins above the least bad number that was seen before it
+abbrev pub IsWorked : JobView → ℕ × ℕ → Type 0
+IsWorked job pair = block_start job pair.0 ≤ pair.1
 
 -- each block was seen with nothing bad, and none has a bad number
 pub record AreClean (job : JobView) (pairs : List (ℕ × ℕ)) : Type 0 where
@@ -72,11 +93,12 @@ pub record AreClean (job : JobView) (pairs : List (ℕ × ℕ)) : Type 0 where
 
 -- A part stands for pairs of a block and the least bad number that was seen before it. If all of them are clean, its sums
 -- are the residues of the sums over these blocks, for each integral and modulus. Its least number is the least that was
--- answered.
+-- answered. Its seat knows the edges of each of these blocks that was not passed over.
 pub record StandsFor (job : JobView) (part : PartSum) (pairs : List (ℕ × ℕ)) : Type 0 where
   pub sums : AreClean job pairs
       → AreResiduesOf job.problem.moduli job.problem.integrals (sum_of_blocks job (blocks_of pairs)) part.sums
   pub least : part.least ≡ least_of (answers (least_bad_of job) pairs)
+  pub edges : All (λ pair. IsWorked job pair → KnowsBlock job part.seat pair.0) pairs
 
 -- the lesser of a number and an answer, if there is one
 abbrev pub least_with : ℕ → Option ℕ → ℕ

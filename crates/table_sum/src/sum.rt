@@ -46,6 +46,13 @@ impl<'a> TableSum<'a> {
         }
     }
 
+    /// The problem.
+    pub fn problem(&self) -> &'a Problem
+        ensures { result.now ≡ problem_of self.now }
+    {
+        self.problem
+    }
+
     /// The words of the table for the modulus at an index.
     pub(crate) fn column(&self, index: u8) -> Column<'a>
         requires { index < length self.now.problem.now.moduli }

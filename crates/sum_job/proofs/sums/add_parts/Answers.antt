@@ -21,8 +21,12 @@ more_added parts i d q m initial old new lt e f =
 pub loop-part-preserved : goal.loop-part-preserved
 loop-part-preserved c = record {
   size = let kept = c.add_residues.auto.sums in let before = c.loop-part.invariant.size in cc;
-  added = λ q h. more_added c.args.parts.now c.loop-part.part-index _ q (modulus_at c.args.problem.now.moduli q) (slice_index c.args.residues.now q)
-      (slice_index c.loop-part.residues q) _ (omega arith) (c.loop-part.invariant.added q h) (c.add_residues.ensures.added q h);
+  added = λ q h.
+      let m = modulus_at c.args.problem.now.moduli q in
+      let part = c.part-item.result in
+      more_added c.args.parts.now c.loop-part.part-index part q m (slice_index c.args.residues.now q)
+      (slice_index c.loop-part.residues q) _ (omega arith) (c.loop-part.invariant.added q h)
+      (c.add_residues.ensures.added q h ∙ ap (λ (p : PartSum). (slice_index c.loop-part.residues q + sum_at q p) % m) c.part-item.is);
   reduced = c.add_residues.ensures.reduced;
   rest = λ q h. c.add_residues.ensures.rest q h ∙ c.loop-part.invariant.rest q h;
 }

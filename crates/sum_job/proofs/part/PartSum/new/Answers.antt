@@ -3,4 +3,4 @@ use Rattle.sum_job.proofs.PartLaws.{empty_part}
 use Rattle.sum_job.proofs.part.PartSum.new.Goals as goal
 
 pub returns-clause-empty : goal.returns-clause-empty
-returns-clause-empty c = λ job rules. empty_part job _ rules refl refl
+returns-clause-empty c = λ job rules seat. empty_part job _ rules seat refl refl

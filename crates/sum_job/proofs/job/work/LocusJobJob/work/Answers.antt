@@ -2,7 +2,9 @@ use Rattle.std.proofs.Common.{◌≡◌, ◌<◌, ◌≤◌, ℕ, Some, None, sy
 use Rattle.localisation.specs.Agreement.{IsLeastBad, NoneBad}
 use Rattle.problem.specs.Sums.{is_bad_of}
 use Rattle.worker_pool.specs.Rounds.{at_most}
-use Rattle.sum_job.specs.Parts.{JobView, block_start, block_stop, least_bad_of, least_with, IsAdded}
+use Rattle.factor_table.specs.declared.table.FactorSeat.{FactorSeat}
+use Rattle.table_sum.specs.Words.{IsLater}
+use Rattle.sum_job.specs.Parts.{JobView, block_start, block_stop, least_bad_of, least_with, IsAdded, KnowsNumbers, KnowsBlock}
 use Rattle.sum_job.specs.Jobs.{view}
 use Rattle.sum_job.proofs.JobLaws.{none_of_block, least_of_block}
 use Rattle.sum_job.proofs.PartLaws.{passed_over, noted, added, answer_above, at_same}
@@ -21,7 +23,7 @@ returns-then-start-seen-clause-stands c =
     let start = c.bounds-start.result.0 in
     let more = c.if-start-seen.true in
     let fits = c.bounds-start.type_inv in
-    passed_over job c.args.part.now c.args.block.number c.args.seen (omega arith)
+    passed_over job c.args.part.now c.args.block.number c.args.seen c.requires.ready.seat (omega arith)
     (above job start c.args.seen c.args.block.number c.bounds-start.ensures.start more)
 
 pub returns-then-start-seen-clause-answer : goal.returns-then-start-seen-clause-answer
@@ -42,14 +44,22 @@ told_none job start stop block e f lt h =
     none_of_block job block (ordered job start stop block e f lt)
     (at_same (λ a b. NoneBad (is_bad_of job.problem) a b) start stop (block_start job block) (block_stop job block) e f h)
 
+-- the edges of a block's trees
+known : (job : JobView) (seat : FactorSeat) (start stop block : ℕ) → start ≡ block_start job block → stop ≡ block_stop job block
+    → KnowsNumbers job seat start stop → KnowsBlock job seat block
+known job seat start stop block e f h = at_same (KnowsNumbers job seat) start stop (block_start job block) (block_stop job block) e f h
+
 pub returns-in-Some-clause-stands : goal.returns-in-Some-clause-stands
 returns-in-Some-clause-stands c =
     let job = view c.args.self.now in
     let b = c.bounds-start in
     noted job c.args.part.now c.told.new.part c.args.block.number c.args.seen c.in-Some.least
     (told_least job b.result.0 b.result.1 c.args.block.number c.in-Some.least b.ensures.start b.ensures.stop b.ensures.order c.in-Some.ensures.least)
-    (c.told.ensures.least ∙ ap (λ part. least_with part.least c.told.result) c.in-Some.ensures.kept
+    (c.told.ensures.least ∙ ap (λ least. least_with least c.told.result) c.add_block.ensures.kept
     ∙ ap (least_with c.args.part.now.least) c.told.ensures.answer)
+    (subst (IsLater job.table c.args.part.now.seat) (sym c.told.ensures.seat) c.add_block.ensures.seat)
+    (subst (λ seat. KnowsBlock job seat c.args.block.number) (sym c.told.ensures.seat)
+    (known job c.add_block.new.part.seat b.result.0 b.result.1 c.args.block.number b.ensures.start b.ensures.stop c.add_block.ensures.edges))
 
 pub returns-in-Some-clause-answer : goal.returns-in-Some-clause-answer
 returns-in-Some-clause-answer c =
@@ -65,9 +75,11 @@ returns-in-None-clause-stands c =
     let b = c.bounds-start in
     let p = job.problem in
     let none = told_none job b.result.0 b.result.1 c.args.block.number b.ensures.start b.ensures.stop b.ensures.order (c.in-None.ensures.none refl) in
-    added job c.args.part.now c.add_block.new.part c.args.block.number c.args.seen c.args.self.now.problem.now.rules c.add_block.ensures.ready.places none
+    added job c.args.part.now c.add_block.new.part c.args.block.number c.args.seen c.args.self.now.sum.now.problem.now.rules c.add_block.ensures.ready.places none
     (at_same (λ x y. IsAdded p x y c.args.part.now c.add_block.new.part) b.result.0 b.result.1 (block_start job c.args.block.number)
     (block_stop job c.args.block.number) b.ensures.start b.ensures.stop (c.in-None.ensures.added refl))
+    c.add_block.ensures.seat
+    (known job c.add_block.new.part.seat b.result.0 b.result.1 c.args.block.number b.ensures.start b.ensures.stop c.add_block.ensures.edges)
 
 pub returns-in-None-clause-answer : goal.returns-in-None-clause-answer
 returns-in-None-clause-answer c =
