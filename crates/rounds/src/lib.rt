@@ -12,3 +12,6 @@ mod round;
 
 pub use advancing::{advance, advance_problem};
 pub use progress::{Outcome, Progress};
+
+#[cfg(test)]
+mod tests;
