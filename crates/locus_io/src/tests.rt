@@ -1,6 +1,6 @@
 use crate::{
-    Files, HostErr, HostFiles, HostOut, HostSink, LoadError, MemoryFiles, MemorySink, Sink,
-    SureFiles, SureSink, WordsError, host_words, put_all,
+    Files, HostErr, HostFiles, HostOut, HostSink, HostStopper, LoadError, MemoryFiles, MemorySink,
+    ScriptedStopper, Sink, Stopper, SureFiles, SureSink, WordsError, host_words, put_all,
 };
 use std::alloc::Global;
 use std::env::FillError;
@@ -150,5 +150,35 @@ fn words_that_are_no_text_are_refused(rt: HostRuntime) -> Result<(), Fail> {
     assert_eq!(rt; words[1].as_str(), "run");
     let refused = host_words(&(Arguments(&[b"locus", b"run", b"f\xff"]), rt.alloc()));
     assert_eq!(rt; refused.err(), Some(WordsError::NotText));
+    Ok(())
+}
+
+#[test]
+fn a_scripted_stopper_gives_its_answers_and_then_says_no(rt: HostRuntime) -> Result<(), Fail> {
+    let alloc = rt.alloc();
+    let mut stopper = ScriptedStopper::new(Vec::from_slice(alloc, &[false, true])?);
+    assert_eq!(rt; stopper.asked(), 0);
+    for (asked, wanted) in [(1, false), (2, true), (3, false), (4, false)] {
+        let answer = stopper.ask(alloc, "s").ok().ok_or("no memory")?;
+        assert_eq!(rt; answer, wanted, "at question {asked}");
+        assert_eq!(rt; stopper.asked(), asked);
+    }
+    Ok(())
+}
+
+#[test]
+fn the_host_stops_where_a_file_is_there(rt: HostRuntime) -> Result<(), Fail> {
+    let alloc = rt.alloc();
+    let mut stopper = HostStopper::new(rt.clone()?);
+    let cases = [
+        ("/dev/null", true),
+        ("/not/there", false),
+        ("/dev/null/below", false),
+        ("", false),
+    ];
+    for (name, wanted) in cases {
+        let answer = stopper.ask(alloc, name).ok().ok_or("no memory")?;
+        assert_eq!(rt; answer, wanted, "at {name}");
+    }
     Ok(())
 }
