@@ -1,6 +1,6 @@
 //! Rounds under a budget.
 
-ghost use Rattle.std.specs.Prelude.{◌≡◌, ◌≢◌, ◌<◌, ◌≤◌, ◌^◌, ℕ, List, true, All, length, Ok, IfOk, IfSome, OnErr};
+ghost use Rattle.std.specs.Prelude.{◌≡◌, ◌≢◌, ◌<◌, ◌≤◌, ◌^◌, ℕ, List, true, All, length, Ok, IfOk, IfSome, IsSome, OnErr};
 ghost use Rattle.problem.specs.Problems.{view as problem_view};
 ghost use Rattle.problem.specs.Sums.{count_of};
 ghost use Rattle.checkpoint.specs.States.{AreResidues};
@@ -74,7 +74,8 @@ pub fn advance_problem<R: Threads + Sync, S: Stopper, G: Gate>(
     // count and last name.
     ensures stopped { IfOk result (λ progress. IsEarly
         (record { problem = problem_view problem.now; next = next; residues = residues.now }) budget progress.outcome
-        → IfSome stop_name.entry (λ name. RoseBy (S.stops stopper.old) (S.stops stopper.new) name.now (S.last_stop stopper.new))) }
+        → IsSome stop_name.entry × IfSome stop_name.entry (λ name.
+        RoseBy (S.stops stopper.old) (S.stops stopper.new) name.now (S.last_stop stopper.new))) }
     ensures kept { IfOk result (λ progress. ¬ IsEarly
         (record { problem = problem_view problem.now; next = next; residues = residues.now }) budget progress.outcome
         → Stayed (S.stops stopper.old) (S.stops stopper.new) (S.last_stop stopper.old) (S.last_stop stopper.new)) }
@@ -121,7 +122,8 @@ pub fn advance<R: Threads + Sync, S: Stopper, G: Gate>(
         → IsChain state.now.problem first begin state.now.next state.now.residues
         → IsEndOfChain (record { problem = state.now.problem; next = first; residues = begin }) progress.outcome) }
     ensures stopped { IfOk result (λ progress. IsEarly (sum_of state.now) budget progress.outcome
-        → IfSome stop_name.entry (λ name. RoseBy (S.stops stopper.old) (S.stops stopper.new) name.now (S.last_stop stopper.new))) }
+        → IsSome stop_name.entry × IfSome stop_name.entry (λ name.
+        RoseBy (S.stops stopper.old) (S.stops stopper.new) name.now (S.last_stop stopper.new))) }
     ensures kept { IfOk result (λ progress. ¬ IsEarly (sum_of state.now) budget progress.outcome
         → Stayed (S.stops stopper.old) (S.stops stopper.new) (S.last_stop stopper.old) (S.last_stop stopper.new)) }
     ensures refused { OnErr result
@@ -163,7 +165,8 @@ fn run_rounds<R: Threads + Sync, S: Stopper, G: Gate>(
         (record { problem = problem_view (problem_of sum.now); next = next; residues = residues.now }) budget (length parts.old)) }
     ensures stopped { IfOk result (λ progress. IsEarly
         (record { problem = problem_view (problem_of sum.now); next = next; residues = residues.now }) budget progress.outcome
-        → IfSome stop_name.entry (λ name. RoseBy (S.stops stopper.old) (S.stops stopper.new) name.now (S.last_stop stopper.new))) }
+        → IsSome stop_name.entry × IfSome stop_name.entry (λ name.
+        RoseBy (S.stops stopper.old) (S.stops stopper.new) name.now (S.last_stop stopper.new))) }
     ensures kept { IfOk result (λ progress. ¬ IsEarly
         (record { problem = problem_view (problem_of sum.now); next = next; residues = residues.now }) budget progress.outcome
         → Stayed (S.stops stopper.old) (S.stops stopper.new) (S.last_stop stopper.old) (S.last_stop stopper.new)) }
@@ -229,7 +232,7 @@ fn is_stopped<S: Stopper>(
     is_left: bool,
 ) -> Result<bool, NoMemory>
     ensures left { result ≡ Ok true → is_left ≡ true }
-    ensures stop { result ≡ Ok true → IfSome stop_name.entry (λ name.
+    ensures stop { result ≡ Ok true → IsSome stop_name.entry × IfSome stop_name.entry (λ name.
         RoseBy (S.stops stopper.old) (S.stops stopper.new) name.now (S.last_stop stopper.new)) }
     ensures kept { result ≢ Ok true →
         Stayed (S.stops stopper.old) (S.stops stopper.new) (S.last_stop stopper.old) (S.last_stop stopper.new) }
