@@ -1,4 +1,4 @@
--- On a tree the colour of vertex 0 is enough: the walk comes to all other vertices, whatever stood in their places.
+-- On a tree the colour of vertex 0 is enough: the walk comes to all other vertices, whatever their entries were.
 use Rattle.std.proofs.Common.{◌≡◌, ◌≢◌, ℕ, ◌+◌, ◌<◌, ◌≤◌, Bool, true, false, ◌||◌, ◌==◌, List, [], ◌∷◌, length, take, replicate, get_or, set, refl, sym, ap, ◌∙◌, subst, ⊎_elim, arith, eqb-true, length-set, get_or-set_same}
 use Rattle.std.proofs.lemmas.Bool.{cases_eq}
 use Rattle.std.proofs.lemmas.Bool.Decides.{nat_tests}
@@ -8,10 +8,10 @@ use Rattle.trees.specs.Walks.{is_there, place_of, walk_in, IsWalk, coloured, dig
 use Rattle.trees.proofs.AllTrees.{both}
 use Rattle.trees.proofs.WalkLaws.{Within, is_walked, now_there, coloured_keeps, coloured_follows, follows_once, digits_keep}
 use Rattle.trees.proofs.WalkedEdges.{tree_walk}
-use Rattle.decorated_tree.proofs.Places.{length-coloured}
+use Rattle.decorated_tree.proofs.Unranking.{length-coloured}
 use Rattle.decorated_tree.proofs.Fitting.{length-digits_of}
 
--- what is said of one place or another, and not of the first
+-- what holds at one index or another, and not at the first of them
 pub other_place : (x u : ℕ) (b : Bool) → x ≢ u → ((x == u) || b) ≡ true → b ≡ true
 other_place x u b ne h = grind (arith, nat_tests)
 
@@ -63,7 +63,7 @@ all_coloured n es ds xs tree long same first =
     (λ i k. ⊎_elim (λ z. subst (λ j. get_or (coloured walk ds xs) j 0 ≡ get_or (coloured walk ds ds) j 0) z at)
     (λ ne. along i (t.reaches i (omega arith) ne)) (cases_eq 0 i))
 
--- ---- in the places of the code
+-- ---- as the entries of the code's arrays
 first_set : (n : ℕ) (es : List (ℕ × ℕ)) (xs : List ℕ) (x : ℕ) → is_tree n es ≡ true → length xs ≡ n → get_or (set xs 0 x) 0 0 ≡ x
 first_set n es xs x tree long =
     let count : length es + 1 ≡ n = eqb-true (length es + 1) n (both _ _ (both _ _ tree).0).1 in

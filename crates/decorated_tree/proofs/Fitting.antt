@@ -45,7 +45,7 @@ tree_of_shape s t h =
       differ = d.differ;
     }
 
--- what the first tests tell
+-- what is known after the first tests
 pub record FitFacts (s : TreeShape) (t : Tree) : Type 0 where
   pub least : 2 ≤ t.n
   pub most : t.n ≤ s.degree + 1

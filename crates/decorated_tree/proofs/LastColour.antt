@@ -18,7 +18,7 @@ use Rattle.trees.proofs.WalkedEdges.{AlongEdges, tree_walk}
 use Rattle.trees.proofs.ColourDigits.{AreColours, colours_back}
 use Rattle.mixed_radix.proofs.Places.{length-digits, carry_start, carry_end}
 use Rattle.decorated_tree.specs.Following.{GoOn, ColoursGoOn, colour_bases, joins_colour}
-use Rattle.decorated_tree.proofs.Places.{length-coloured}
+use Rattle.decorated_tree.proofs.Unranking.{length-coloured}
 use Rattle.decorated_tree.proofs.FirstColour.{other_place, only_zero, zero_there}
 
 -- ---- the edges of the last vertex
@@ -56,7 +56,7 @@ only_one (z ∷ []) e (there i) j = elim i [ ]
 only_one (z ∷ w ∷ xs) e i j = absurd (omega arith)
 
 -- ---- steps beside the last vertex
--- what a step asks where the digit of v goes up by one and its colour becomes c
+-- what has to hold of a step if the digit of v goes up by one and its colour becomes c
 record IsRaised (v c : ℕ) (ds cs : List ℕ) (s : ℕ × ℕ) : Type 0 where
   own : s.0 ≡ v → c ≡ lifted (get_or ds v 0 + 1) (get_or cs s.1 0)
   behind : s.1 ≡ v → get_or cs s.0 0 ≡ lifted (get_or ds s.0 0) c
@@ -179,7 +179,7 @@ digits_long n r ds least h =
     let places = length-replicate (n - 1) r in
     length-digits (colour_bases n r) ds h ∙ (let long : suc (length (replicate (n - 1) r)) ≡ n = omega arith in long)
 
--- the digits with the last one raised, where its base has room
+-- the digits with the last one raised, if it is still below its base
 last_goes_on : (n r v : ℕ) (ds : List ℕ) → n ≡ suc v → 1 ≤ v → AreDigits (colour_bases n r) ds → get_or ds v 0 + 1 < r → GoOn (colour_bases n r) ds (set ds v (get_or ds v 0 + 1)) true
 last_goes_on n r v ds e some h less =
     let count = digits_long n r ds (omega arith) h in

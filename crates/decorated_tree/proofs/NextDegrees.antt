@@ -10,7 +10,7 @@ use Rattle.trees.proofs.DegreeRanks.{ranked}
 use Rattle.decorated_tree.specs.Ranks.{binomial_rank, lists_passed}
 use Rattle.decorated_tree.proofs.BinomialRanks.{rank_by_binomials}
 use Rattle.decorated_tree.specs.Following.{GoOn, DegreesGoOn, first_degrees}
-use Rattle.decorated_tree.proofs.Ranking.{pascal, choose_some, passed-more, degrees-cons, degree_parts, rank-cons}
+use Rattle.decorated_tree.proofs.DegreeRanking.{pascal, choose_some, passed-more, degrees-cons, degree_parts, rank-cons}
 
 -- ---- the first list
 length-first : (j e : ℕ) → length (replicate j 1 ++ e ∷ []) ≡ suc j
@@ -109,7 +109,7 @@ first_goes_up d a old rest some h g more =
     subst (λ l. AreDegrees (suc k) d ((a + 1) ∷ l) × (binomial_rank ((a + 1) ∷ l) d ≡ binomial_rank (a ∷ old) d + 1)) (sym new)
     (degrees-cons k d (a + 1) (first_degrees k (d - (a + 1))) (omega arith) (omega arith) tail, omega arith)
 
--- nothing is above 1 but in the first place, and all goes back
+-- only the number at index 0 is above 1, and all go back
 pub all_go_back : (d a : ℕ) (old rest : List ℕ) → 1 ≤ length old → AreDegrees (length (a ∷ old)) d (a ∷ old) → DegreesGoOn (d - a) old rest false
     → get_or rest (length old - 1) 0 ≤ 1 → DegreesGoOn d (a ∷ old) (1 ∷ set rest (length old - 1) a) false
 all_go_back d a old rest some h g most =
@@ -153,7 +153,7 @@ rank_goes_on n d old new false least most small h g =
     let old_rank = rank_by_binomials n d old least most small h in
     (own, ((below, tt), omega arith, omega arith))
 
--- ---- the list where only the first degree is above 1
+-- ---- the list in which only the first degree is above 1
 ones_set : (j : ℕ) → set {A = ℕ} (replicate (suc j) 1) j 1 ≡ replicate (suc j) 1
 ones_set j = let ones : List ℕ = replicate (suc j) 1 in ap (set ones j) (sym (get_or-replicate (suc j) j 1 0 (omega arith))) ∙ set-get_or ones j 0
 
@@ -190,7 +190,7 @@ all_back d (a ∷ rest) some h e =
         (subst (λ z. DegreesGoOn d (a ∷ z) (set (1 ∷ z) k a) false) (sym ones) (last_list k d a (subst (λ z. AreDegrees (suc z) d (a ∷ replicate k 1)) long own)))
 
 -- ---- the last degree above 1
--- it stands after the first place
+-- it has an index above 0
 goes_up_first : (d a b k : ℕ) → AreDegrees (suc (suc k)) d (a ∷ b ∷ replicate k 1) → 1 < b
     → DegreesGoOn d (a ∷ b ∷ replicate k 1) (set ((a + 1) ∷ 1 ∷ replicate k 1) (suc k) (b - 1)) true
 goes_up_first d a b k h more =
@@ -239,7 +239,7 @@ goes_up_after d (suc p) ds h some l more e =
     (goes_up_at d p ds h l more (subst (λ z. drop z ds ≡ replicate (length ds - z) 1) next e))
 
 -- ---- the search for it
--- from a place after the first on all degrees are 1, and nothing has changed
+-- from some index above 0 on all degrees are 1, and nothing has changed
 pub record AreOnesFrom (place : ℕ) (old ds : List ℕ) : Type 0 where
   pub some : 1 ≤ place
   pub same : ds ≡ old

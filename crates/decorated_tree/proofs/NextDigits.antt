@@ -1,4 +1,6 @@
--- Digits that go on to the next number, one list after the other.
+-- The digits of the next number, from the least significant one on: a digit that is less than its base less 1 goes up,
+-- and one that is the greatest goes back to 0 and carries over. Several lists of digits, one after the other, go on
+-- likewise.
 use Rattle.std.proofs.Common.{◌≡◌, ℕ, zero, suc, ◌+◌, ◌-◌, ◌*◌, ◌<◌, ◌≤◌, Bool, true, false, List, [], ◌∷◌, ◌++◌, length, get_or, set, replicate, refl, sym, ap, ◌∙◌, subst, arith, All}
 use Rattle.std.proofs.lemmas.List.{length-replicate, get_or-replicate}
 use Rattle.std.proofs.lemmas.List.Elements.{All-from_get_or}
@@ -8,7 +10,8 @@ use Rattle.mixed_radix.proofs.Places.{IsCarriedTo, carry_start, carry_step, carr
 use Rattle.decorated_tree.specs.Following.{GoOn, colour_bases}
 
 -- ---- a word of letters
--- the word with zeros from a place on, to which all words of these places and one more are still to be added
+-- the letters from the index on are 0, and the number of these letters plus the number of words that could stand there
+-- is that of the old letters plus 1
 abbrev pub IsCounted : ℕ → List ℕ → List ℕ → ℕ → Type 0
 IsCounted base old letters place = IsCarriedTo (replicate (length old) base) old letters place
 

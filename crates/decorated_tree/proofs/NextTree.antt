@@ -21,8 +21,8 @@ use Rattle.decorated_tree.specs.declared.tree.Tree.{Tree}
 use Rattle.decorated_tree.specs.Trees.{tree_view, is_padded}
 use Rattle.decorated_tree.proofs.BinomialRanks.{rank_by_binomials}
 use Rattle.decorated_tree.specs.Following.{GoOn, DegreesGoOn, ColoursGoOn, IsTreeAfter, IsLastWithEdges, colour_bases}
-use Rattle.decorated_tree.proofs.Places.{view_of, parts_at}
-use Rattle.decorated_tree.proofs.Counting.{digits_part, go_on_after, go_on_carry}
+use Rattle.decorated_tree.proofs.Unranking.{view_of, parts_at}
+use Rattle.decorated_tree.proofs.NextDigits.{digits_part, go_on_after, go_on_carry}
 use Rattle.decorated_tree.proofs.NextDegrees.{rank_goes_on}
 use Rattle.decorated_tree.proofs.LastColour.{AreTreeColours}
 
@@ -208,7 +208,7 @@ colours_ready s t r edges colours h p q c =
 abbrev pub arranged : Tree → List ℕ → List ℕ → List ℕ → Tree
 arranged t cs ds ms = record { n = t.n; edges = t.edges; colours = cs; degrees = ds; m = t.m; marks = ms }
 
--- the used places, and the others as they were
+-- the used entries, and the others as they were
 record IsKept (k : ℕ) (old new used : List ℕ) : Type 0 where
   front : take k new ≡ used
   rest : drop k new ≡ drop k old

@@ -1,4 +1,6 @@
--- Where the tree of a number stands, and the parts of its digits.
+-- The tree of a number: how many vertices it has, its number among the trees with as many, and what its digits give.
+-- The counts of trees are subtracted one after the other until the rest is below one of them; the digits of the rest
+-- are cut into the letters, the colours, the rank of the degrees and the marks.
 use Rattle.std.proofs.Common.{◌≡◌, ℕ, zero, suc, ◌+◌, ◌-◌, ◌*◌, ◌<◌, ◌≤◌, Bool, true, ◌&&◌, ◌==◌, nat_lt, if◌then◌else◌, List, [], ◌∷◌, ◌++◌, length, get_or, take, drop, replicate, All, ◌≢◌, inl, inr, ◌⊎◌, set, length-set, refl, sym, ap, ◌∙◌, subst, arith, lt-ltb, le-ltb, ltb-true}
 use Rattle.std.specs.List.{list_all}
 use Rattle.std.proofs.lemmas.List.{get_or-append-add, length-append, length-drop, drop-replicate}
@@ -110,7 +112,7 @@ all_places n r cs h = All-from_get_or (λ x. x < r + 1) cs 0 (λ i k. at i k (ca
     at i k (inl e) = let f : get_or cs 0 0 ≤ r = h.first in subst (λ z. get_or cs z 0 < r + 1) e (omega arith)
     at i k (inr ne) = let l = h.long in let f : get_or cs i 0 < r = h.places i (omega arith) ne in omega arith
 
--- where the parts stand
+-- the parts at their indices
 pub record PartsAt (n : ℕ) (w cs : List ℕ) (q : ℕ) (ms ds : List ℕ) : Type 0 where
   pub word : take (n - 2) ds ≡ w
   pub colours : take n (drop (n - 2) ds) ≡ cs
@@ -183,7 +185,7 @@ digit_facts s n ds least h =
       colours_within = (let e = length-drop (n - 2) ds in omega arith);
     }
 
--- ---- used places, and the others
+-- ---- used entries, and the others
 all_zero : (k : ℕ) → list_all (λ x. x == 0) (replicate k 0) ≡ true
 all_zero zero = refl
 all_zero (suc k) = all_zero k
@@ -222,7 +224,7 @@ coloured_places k places bytes zeros new e z f g =
     ∙ ap (λ l. new ++ l) (drop-append_seam places (drop k zeros)) ∙ ap (λ l. new ++ drop k l) z ∙ ap (λ l. new ++ l) (drop-replicate k 11 0)
     ∙ ap (λ j. new ++ replicate (11 - j) 0) (sym g)
 
--- the places that are filled from the digits
+-- the entries that are filled from the digits
 pub record FilledTree (s : TreeShape) (n : ℕ) (ds : List ℕ) (es : List (ℕ × ℕ)) (cs bs : List ℕ) (m : ℕ) (ms : List ℕ) : Type 0 where
   pub view : view_of n es (take n cs) (take (n - 1) bs) (take m ms) ≡ tree_by s n ds
   pub padding : (list_all (λ x. x == 0) (drop n cs) && list_all (λ x. x == 0) (drop (n - 1) bs) && list_all (λ x. x == 0) (drop m ms)) ≡ true

@@ -256,7 +256,7 @@ walked n es rounds walk marks e w = let v = subst (λ k. IsWalking n es k [] wal
     none [] = refl
     none (x ∷ l) = ap (λ r. x ∷ r) (none l)
 
--- where all vertices are reached, later rounds add nothing
+-- if all vertices are reached, later rounds add nothing
 pub walked_all : (n : ℕ) (es : List (ℕ × ℕ)) (rounds : ℕ) (walk : List (ℕ × ℕ)) (marks : List Bool) → n ≤ 11 → is_tree n es ≡ true → n ≤ length walk + 1
     → IsWalking n es rounds [] walk marks → walk ≡ walk_in n es (0 ∷ [])
 walked_all n es rounds walk marks most t all w = alone (walk_in rounds es (after walk (0 ∷ []))) w.whole (walk_of_tree n es most t).few

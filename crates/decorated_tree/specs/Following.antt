@@ -36,7 +36,7 @@ pub record ColoursGoOn (n r : ℕ) (edges : List (ℕ × ℕ)) (old new : List �
 abbrev pub joins_colour : ℕ → ℕ → List ℕ → ℕ × ℕ → Bool
 joins_colour last colour colours e = (e.1 == last) && (slice_index colours e.0 == colour)
 
--- a tree with the next number, and 0 in the places past the used ones
+-- a tree with the next number, whose entries past the used ones are 0
 pub record IsTreeAfter (s : TreeShape) (t u : Tree) : Type 0 where
   pub decorated : is_decorated s (tree_view u) ≡ true
   pub number : number_of s (tree_view u) ≡ number_of s (tree_view t) + 1

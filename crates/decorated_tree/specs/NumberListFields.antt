@@ -1,7 +1,7 @@
--- The fields of `Numbers`, given back by its items.
+-- The fields of `NumberList`, given back by its items.
 use Rattle.std.specs.Prelude.{◌≡◌, ℕ, List, length, take}
 use Rattle.trees.specs.Padding.{padded, IsPadded, length-front, padded-take}
-use Rattle.decorated_tree.specs.declared.numbers.Numbers.TheInside.{Inside}
+use Rattle.decorated_tree.specs.declared.number_list.NumberList.TheInside.{Inside}
 
 abbrev pub fields_of : List ℕ → Inside
 fields_of items = record { items = padded 0 33 items; count = length items }

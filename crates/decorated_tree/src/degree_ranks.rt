@@ -1,4 +1,4 @@
-//! Lists of degrees, and their ranks among all lists of so many positive numbers with the same sum.
+//! Lists of degrees, and their ranks among all lists of as many positive numbers with the same sum.
 
 ghost use Rattle.std.specs.Prelude.{◌≡◌, ℕ, ◌+◌, ◌-◌, ◌*◌, ◌<◌, ◌≤◌, [], ◌++◌, length, get_or, replicate, List};
 ghost use Rattle.trees.specs.Numbering.{AreDegrees, choose, degree_lists, rank_of};

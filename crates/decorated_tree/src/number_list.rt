@@ -1,4 +1,5 @@
-//! Short lists of numbers in fixed arrays.
+//! Short lists of numbers in fixed arrays: the digits of a number of a tree, their bases, and the numbers of trees with
+//! so many vertices.
 
 ghost use Rattle.std.specs.Prelude.{◌≡◌, ◌+◌, ◌<◌, ◌≤◌, [], ◌∷◌, ◌++◌, length, replicate};
 
@@ -7,20 +8,20 @@ use std::marker::Model;
 /// The most numbers of a list, which is the most digits of a number of a tree: 9 letters, 11 colours, a rank, 12 marks.
 pub(crate) const MOST: usize = 33;
 
-/// At most 33 numbers.
+/// A list of at most 33 numbers. Contracts see it as a list.
 #[derive(Clone, Copy, Debug, PartialEq, Eq)]
-pub(crate) struct Numbers {
+pub(crate) struct NumberList {
     items: [u64; MOST],
     count: usize,
 }
 
-impl Model for Numbers {
+impl Model for NumberList {
     ghost use Rattle.std.specs.Prelude.{ℕ, List, take};
     ghost use Rattle.trees.specs.Padding.{IsPadded};
 
     ghost Value = { List ℕ };
 
-    ghost use Rattle.decorated_tree.specs.NumbersFields.{fields_of, fields_of-take};
+    ghost use Rattle.decorated_tree.specs.NumberListFields.{fields_of, fields_of-take};
 
     ghost view = { λ l. take l.count l.items };
 
@@ -31,18 +32,18 @@ impl Model for Numbers {
     ghost inverse_ok = { fields_of-take };
 }
 
-impl Numbers {
-    /// No numbers.
+impl NumberList {
+    /// The empty list.
     pub(crate) fn empty() -> Self
         ensures { result ≡ [] }
     {
-        Numbers {
+        NumberList {
             items: [0; MOST],
             count: 0,
         }
     }
 
-    /// The numbers.
+    /// The numbers of the list, in order.
     pub(crate) fn as_slice(&self) -> &[u64]
         ensures value { result.now ≡ self.now }
         ensures limited { length self.now ≤ 33 }

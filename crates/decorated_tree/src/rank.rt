@@ -1,4 +1,4 @@
-//! The number of a tree.
+//! The number of a decorated tree: its rank among the trees of its shape.
 
 ghost use Rattle.std.specs.Prelude.{◌≡◌, ◌-◌, ◌+◌, ◌^◌, ◌<◌, ◌≤◌, ◌↔◌, ◌==◌, ◌&&◌, nat_le, nat_lt, false, true, sum, take, drop, length, IsTrue, IsOk, IsErr, IfOk};
 ghost use Rattle.std.specs.List.{list_all};
@@ -9,8 +9,8 @@ ghost use Rattle.decorated_tree.specs.Shapes.{within_limits};
 ghost use Rattle.decorated_tree.specs.Steps.{AreWithin};
 ghost use Rattle.decorated_tree.specs.Trees.{IsListed, tree_view, is_padded, is_tree_of, fits_shape};
 
-use crate::numbers::Numbers;
-use crate::ranks::rank_of;
+use crate::degree_ranks::rank_of;
+use crate::number_list::NumberList;
 use crate::shape::Shape;
 use crate::tree::{Tree, used};
 use crate::walk::{uncolour, walk_from_zero};
@@ -26,8 +26,8 @@ impl Shape {
     /// Every member of the list of all decorated trees of this shape has a number, and [`Shape::tree`] gives it back.
     ///
     /// # Errors
-    /// [`NotOfShape`] if and only if the value is not a decorated tree of this shape with 0 in the entries past the used
-    /// ones.
+    /// [`NotOfShape`] if and only if the value is not a decorated tree of this shape with 0 in the entries past the
+    /// used ones.
     pub fn number(&self, tree: &Tree) -> Result<u64, NotOfShape>
         ensures refused { IsErr result ↔ (is_tree_of self.now tree.now ≡ false) }
         ensures accepted { IsOk result ↔ IsTrue (is_tree_of self.now tree.now) }
@@ -50,8 +50,8 @@ impl Shape {
         Ok(self.before(tree.n) + self.radix(tree.n).join(digits.as_slice()))
     }
 
-    /// Whether the value has all of a tree of this shape, except that its edges are a tree and their ends have different
-    /// colours.
+    /// Whether the value has all of a tree of this shape, except that its edges are a tree and their ends have
+    /// different colours.
     fn fits(&self, tree: &Tree, d: u8) -> bool
         requires sum { d ≡ self.now.degree }
         requires most { d ≤ 10 }
@@ -67,7 +67,7 @@ impl Shape {
     }
 
     /// The digits of a tree with this word.
-    fn digits(&self, tree: &Tree, word: &Word, d: u8) -> Numbers
+    fn digits(&self, tree: &Tree, word: &Word, d: u8) -> NumberList
         requires sum { d ≡ self.now.degree }
         requires shape { within_limits self.now ≡ true }
         requires tree { IsTrue (is_tree_of self.now tree.now) }
@@ -78,7 +78,7 @@ impl Shape {
         let walk = walk_from_zero(tree.n, tree.edges.as_slice());
         let mut places = tree.colours;
         uncolour(walk.as_slice(), colours, &mut places[..colours.len()]);
-        let mut digits = Numbers::empty();
+        let mut digits = NumberList::empty();
         digits.extend(word.as_slice());
         digits.extend(&places[..colours.len()]);
         digits.push(rank_of(used(&tree.degrees, tree.n - 1), d));
@@ -87,7 +87,7 @@ impl Shape {
     }
 }
 
-/// Whether the places past the used ones hold 0.
+/// Whether the entries past the used ones are 0.
 fn is_padded(tree: &Tree) -> bool
     ensures { result ≡ is_padded tree.now }
 {
@@ -96,7 +96,7 @@ fn is_padded(tree: &Tree) -> bool
         && are_zero_from(&tree.marks, tree.m)
 }
 
-/// Whether the places from `start` on hold 0.
+/// Whether the entries from the index `start` on are 0.
 fn are_zero_from(places: &[u8], start: u8) -> bool
     ensures { result ≡ list_all (λ x. x == 0) (drop start places.now) }
 {

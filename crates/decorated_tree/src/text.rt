@@ -67,7 +67,7 @@ fn append_edge(to: &mut Vec<u8>, edge: (u8, u8), degree: u8) -> Result<(), NoMem
     append_number(to, degree)
 }
 
-/// Appends the vertices of the marks, or `-` where there is none.
+/// Appends the vertices of the marks, or `-` if there is none.
 fn append_marks(to: &mut Vec<u8>, marks: &[u8]) -> Result<(), NoMemory>
     ensures text { OnOk result (to.new.items ≡ to.old.items ++ marks_text marks.now) }
     ensures grows { Grows to.old.items to.new.items }

@@ -1,4 +1,4 @@
-//! The tree of a number.
+//! The decorated tree of a number.
 
 ghost use Rattle.std.specs.Prelude.{◌≡◌, ℕ, ◌+◌, ◌-◌, ◌*◌, ◌^◌, ◌<◌, ◌≤◌, true, [], ◌∷◌, length, All, IsTrue};
 ghost use Rattle.trees.specs.Edges.{is_tree};
@@ -12,7 +12,7 @@ ghost use Rattle.trees.specs.Padding.{padded};
 ghost use Rattle.decorated_tree.specs.Shapes.{within_limits};
 ghost use Rattle.decorated_tree.specs.Trees.{tree_view, is_padded};
 
-use crate::ranks::degrees_of_rank;
+use crate::degree_ranks::degrees_of_rank;
 use crate::shape::Shape;
 use crate::tree::Tree;
 use crate::walk::{colour, walk_from_zero};
@@ -111,8 +111,9 @@ fn edges_by(n: u8, letters: &[u64]) -> Edges
     decode(n, &Word::of(word).unwrap())
 }
 
-/// The colours of the vertices of a tree, of which the first is that of vertex 0, and each other has its place among the
-/// colours other than that of the neighbour on the way to vertex 0.
+/// The colours of the vertices of a tree. They are given by numbers: the first is the colour of vertex 0, and each
+/// other one is the index of the vertex's colour among those other than the colour of its neighbour on the way to
+/// vertex 0.
 fn colours_by(n: u8, edges: Edges, places: &[u64]) -> [u8; 11]
     requires most { n ≤ 11 }
     requires tree { IsTrue (is_tree n edges) }

@@ -1,6 +1,6 @@
 use Rattle.std.proofs.Common.{arith}
-use Rattle.decorated_tree.proofs.Ranking.{short_tail, few_degrees, first_small}
-use Rattle.decorated_tree.proofs.ranks.+binomial_rank.Goals as goal
+use Rattle.decorated_tree.proofs.DegreeRanking.{short_tail, few_degrees, first_small}
+use Rattle.decorated_tree.proofs.degree_ranks.+binomial_rank.Goals as goal
 
 pub overflow_cast-rest : goal.overflow_cast-rest
 overflow_cast-rest t c =

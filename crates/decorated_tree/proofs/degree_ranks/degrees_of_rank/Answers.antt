@@ -1,8 +1,8 @@
 use Rattle.std.proofs.Common.{◌≡◌, ◌-◌, set, get_or, [], subst, arith, refl}
 use Rattle.trees.specs.Padding.{padded}
 use Rattle.trees.specs.Numbering.{degree_lists}
-use Rattle.decorated_tree.proofs.Ranking.{made_step, made_end}
-use Rattle.decorated_tree.proofs.ranks.degrees_of_rank.Goals as goal
+use Rattle.decorated_tree.proofs.DegreeRanking.{made_step, made_end}
+use Rattle.decorated_tree.proofs.degree_ranks.degrees_of_rank.Goals as goal
 
 pub loop-place-preserved : goal.loop-place-preserved
 loop-place-preserved c =

@@ -1,6 +1,6 @@
-use Rattle.decorated_tree.proofs.Ranking.{first_step, first_less}
+use Rattle.decorated_tree.proofs.DegreeRanking.{first_step, first_less}
 use Rattle.std.proofs.Common.{arith}
-use Rattle.decorated_tree.proofs.ranks.first_degree.Goals as goal
+use Rattle.decorated_tree.proofs.degree_ranks.first_degree.Goals as goal
 
 pub returns-then-rest-passed-clause-less : goal.returns-then-rest-passed-clause-less
 returns-then-rest-passed-clause-less c =

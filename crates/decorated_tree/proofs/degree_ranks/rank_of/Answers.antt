@@ -1,7 +1,7 @@
 use Rattle.std.proofs.Common.{sym, ◌∙◌, arith}
-use Rattle.decorated_tree.proofs.Ranking.{few_degrees}
+use Rattle.decorated_tree.proofs.DegreeRanking.{few_degrees}
 use Rattle.decorated_tree.proofs.BinomialRanks.{rank_of_degrees}
-use Rattle.decorated_tree.proofs.ranks.rank_of.Goals as goal
+use Rattle.decorated_tree.proofs.degree_ranks.rank_of.Goals as goal
 
 pub returns : goal.returns
 returns c =

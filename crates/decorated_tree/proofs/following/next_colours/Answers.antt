@@ -1,7 +1,7 @@
 use Rattle.std.proofs.Common.{◌∙◌, length, subst, sym}
 use Rattle.trees.specs.Numbering.{AreDigits}
 use Rattle.decorated_tree.specs.Following.{GoOn, colour_bases}
-use Rattle.decorated_tree.proofs.Counting.{go_on_digits, small_digits}
+use Rattle.decorated_tree.proofs.NextDigits.{go_on_digits, small_digits}
 use Rattle.decorated_tree.proofs.FirstColour.{uncoloured, recoloured}
 use Rattle.decorated_tree.proofs.following.next_colours.Goals as goal
 

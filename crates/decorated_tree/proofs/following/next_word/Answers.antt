@@ -1,5 +1,5 @@
 use Rattle.std.proofs.Common.{◌-◌, arith}
-use Rattle.decorated_tree.proofs.Counting.{letter_below, counted_on, counted_next, counted_through}
+use Rattle.decorated_tree.proofs.NextDigits.{letter_below, counted_on, counted_next, counted_through}
 use Rattle.decorated_tree.proofs.following.next_word.Goals as goal
 
 pub overflow_add-letters : goal.overflow_add-letters

@@ -1,5 +1,5 @@
 use Rattle.decorated_tree.proofs.Walking.{within_at}
-use Rattle.decorated_tree.proofs.number.ends_differ.Goals as goal
+use Rattle.decorated_tree.proofs.rank.ends_differ.Goals as goal
 
 pub bounds-colours-edge : goal.bounds-colours-edge
 bounds-colours-edge c = (within_at _ _ _ c.requires c.loop-edge-test.true).0

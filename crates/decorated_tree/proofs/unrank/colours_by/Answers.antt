@@ -2,8 +2,8 @@ use Rattle.std.proofs.Common.{◌≡◌, ℕ, List, [], ◌∷◌, ◌++◌, tak
 use Rattle.std.proofs.Math.Seq.{take-append_seam}
 use Rattle.trees.specs.Padding.{padded}
 use Rattle.trees.specs.Walks.{walk_in, coloured}
-use Rattle.decorated_tree.proofs.Places.{coloured_places, length-coloured}
-use Rattle.decorated_tree.proofs.numbering.colours_by.Goals as goal
+use Rattle.decorated_tree.proofs.Unranking.{coloured_places, length-coloured}
+use Rattle.decorated_tree.proofs.unrank.colours_by.Goals as goal
 
 all_colours : (n : ℕ) (es own walk : List (ℕ × ℕ)) (places bytes zeros new : List ℕ) → bytes ≡ places → zeros ≡ replicate 11 0 → own ≡ es → walk ≡ walk_in n own (0 ∷ [])
     → new ≡ coloured walk (take (length places) (bytes ++ drop (length places) zeros)) (take (length places) (bytes ++ drop (length places) zeros))

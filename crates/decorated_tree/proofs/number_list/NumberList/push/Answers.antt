@@ -1,6 +1,6 @@
 use Rattle.std.proofs.Common.{arith, ap, length}
 use Rattle.trees.specs.Padding.{length-front, padded-set}
-use Rattle.decorated_tree.proofs.numbers.Numbers.push.Goals as goal
+use Rattle.decorated_tree.proofs.number_list.NumberList.push.Goals as goal
 
 pub invariant_of-self : goal.invariant_of-self
 invariant_of-self c =

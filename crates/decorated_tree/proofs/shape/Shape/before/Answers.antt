@@ -1,6 +1,6 @@
 use Rattle.std.proofs.Common.{◌≤◌, ◌<◌, ◌+◌, ap, length, get_or, arith, ◌∙◌}
 use Rattle.trees.specs.Numbers.{tree_count}
-use Rattle.decorated_tree.proofs.Places.{length-counts_of, more_before, before_within}
+use Rattle.decorated_tree.proofs.Unranking.{length-counts_of, more_before, before_within}
 use Rattle.decorated_tree.proofs.shape.Shape.before.Goals as goal
 
 pub bounds-counts-fewer : goal.bounds-counts-fewer

@@ -1,6 +1,6 @@
 use Rattle.std.proofs.Common.{arith}
 use Rattle.decorated_tree.proofs.Counts.{limits}
-use Rattle.decorated_tree.proofs.Places.{place_start, found, not_found, place_short, never_through}
+use Rattle.decorated_tree.proofs.Unranking.{place_start, found, not_found, place_short, never_through}
 use Rattle.decorated_tree.proofs.shape.Shape.place.Goals as goal
 
 pub loop-count-init : goal.loop-count-init

@@ -2,7 +2,7 @@ use Rattle.std.proofs.Common.{◌≡◌, ℕ, ◌+◌, ◌-◌, ◌*◌, ◌<◌
 use Rattle.std.proofs.lemmas.List.Elements.{All-weaker, All-same}
 use Rattle.trees.specs.Numbering.{choose}
 use Rattle.decorated_tree.proofs.Counts.{limits}
-use Rattle.decorated_tree.proofs.Places.{digit_facts, filled_tree}
+use Rattle.decorated_tree.proofs.Unranking.{digit_facts, filled_tree}
 use Rattle.decorated_tree.proofs.shape.Shape.tree_by.Goals as goal
 
 pub split_at-requires : goal.split_at-requires
