@@ -27,7 +27,7 @@ pub exponent_within : (ps : List Power) (j : ℕ) → sum (map (psi_power j) ps)
 exponent_within ps j =
     rw (sum-map (psi_power j) ps) (sum_by-le-sum_by (psi_power j) (λ (p : Power). p.power) ps (λ p. one_power j p.power p.class))
 
--- where the powers together are at most 151, so is each exponent
+-- if the powers together are at most 151, so is each exponent
 pub bounded_is_for : (m : ℕ) (term : Term) → IsBoundedTerm m term → IsTermFor m term
 bounded_is_for m term h = record {
   classes = h.classes;

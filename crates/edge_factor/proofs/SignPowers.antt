@@ -2,7 +2,7 @@
 use Rattle.std.proofs.Common.{◌≡◌, ◌≢◌, ℕ, zero, suc, ◌%◌, pos, negsuc, ◌*ℤ◌, refl, ap, sym, subst, arith}
 use Rattle.arithmetic.specs.Numbers.{Leaves, power}
 
--- they go in turns
+-- they alternate: 1 for an even exponent and -1 for an odd one
 turns : (n : ℕ) → (n % 2 ≡ 0 → power (negsuc 0) n ≡ pos 1) × (n % 2 ≢ 0 → power (negsuc 0) n ≡ negsuc 0)
 turns zero = (λ h. refl, λ h. absurd (h refl))
 turns (suc n) =

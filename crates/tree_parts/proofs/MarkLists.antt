@@ -50,7 +50,7 @@ mark_passed vertices v i h =
     ∙ ap (λ b. filter (is_at vertices v) (counted_from 1 i) ++ cond b ((1 + i) ∷ []) []) (not_found vertices v i h)
     ∙ append-nil (filter (is_at vertices v) (counted_from 1 i))
 
--- ---- the marks at each vertex, if the mark i + 1 is put where it is
+-- ---- the marks at each vertex, after the mark i + 1 was put at its vertex
 pub mark_short : (rows new : List (List ℕ)) (u v i : ℕ) (x : ℕ) → u < length rows → new ≡ pushed_at rows u x → length (get_or rows v []) ≤ i → length (get_or new v []) ≤ i + 1
 mark_short rows new u v i x lt is h =
     subst (λ r. length (get_or r v []) ≤ i + 1) (sym is)

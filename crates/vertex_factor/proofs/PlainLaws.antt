@@ -26,7 +26,7 @@ plain-marked ws c [] t h k = absurd (omega arith)
 plain-marked ws c (e ∷ []) t h k = rw k
 plain-marked ws c (e ∷ f ∷ es) t h k = absurd (omega arith)
 
--- the top and the bottom of the stable case, where the number of the ends is read as n
+-- the top and the bottom of the stable case, with n for the number of the ends
 pub stable_top : {m x : ℕ} (ws : List ℤ) (c : ℕ) (es : List End) (t n : ℕ) → length es ≡ n
     → Leaves m (power (tangent_product ws c) (n - 1) *ℤ product_of_degrees es *ℤ power (crossed_sum ws c es) (n + t - 3)) x
     → Leaves m (stable_vertex ws c es t).top x

@@ -47,7 +47,7 @@ within_dimension ws c es ks h some within =
     with_exponents ws c es ks some ∙ stable_choice ws c es ks h
     ∙ chosen _ _ (nat_lt (length es + length ks - 3) (sum ks)) false (grind (arith, nat_tests))
 
--- the top and the bottom of the stable case, where the numbers are read as they are computed
+-- the top and the bottom of the stable case, with the numbers as they are computed
 pub stable_psi_top : {m x : ℕ} (ws : List ℤ) (c : ℕ) (es : List End) (ks : List ℕ) (s left ways : ℕ) → length es ≡ s
     → left ≡ s + length ks - 3 - sum ks → ways ≡ multinomial (s + length ks - 3) ks
     → Leaves m (power (tangent_product ws c) (s - 1) *ℤ product_of_degrees es *ℤ power (crossed_sum ws c es) left *ℤ pos ways) x
