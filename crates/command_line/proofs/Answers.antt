@@ -1,4 +1,4 @@
--- What is read of words that are given to a command.
+-- What is read of the arguments that are given to a command.
 use Rattle.std.proofs.Common.{◌≡◌, ◌≢◌, zero, suc, List, [], ◌∷◌, map, Option, Some, None, option_map, Bool, true, false, ◌&&◌, refl, sym, ap, subst, ◌∙◌, arith}
 use Rattle.std.proofs.lemmas.Bool.{false≢true}
 use Rattle.std.proofs.lemmas.Option.{same_Some}
@@ -26,7 +26,7 @@ first : (a b : Bool) → (a && b) ≡ true → a ≡ true
 first true b e = refl
 first false b e = absurd (false≢true e)
 
--- what is given asks for something, which the words ask
+-- what is given asks for something, and the arguments ask for it
 given_asks : (c : Commands) (words : List Text) (g : Given) → IsGiven (table_of_commands c) words g
     → (request : Request) × (request_named g.command.now (plains_of g) (options_of g) ≡ Some request) × Asks c words request
 given_asks c words g (u, items, h, holds) =

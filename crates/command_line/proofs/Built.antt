@@ -1,4 +1,4 @@
--- The words that the program takes today, as they stand in its formats.
+-- The arguments that the program accepts today, as its formats say.
 use Rattle.std.proofs.Common.{◌≡◌, zero, suc, List, [], ◌∷◌, Some, None, Bool, true, false, ◌&&◌, codes, refl, sym, ap, subst, ◌∙◌, arith}
 use Rattle.std.proofs.lemmas.Bool.{false≢true}
 use Rattle.std.proofs.lemmas.Option.{same_Some}
@@ -21,7 +21,7 @@ both : (a b : Bool) → (a && b) ≡ true → (a ≡ true) × (b ≡ true)
 both true b e = (refl, e)
 both false b e = absurd (false≢true e)
 
--- without options the words are the plain words
+-- without options the arguments are the positional ones
 only_plains : (ws : List Text) (is : List Item) → Says ws is → list_all (option_fits []) (options_in is) ≡ true
     → (ws ≡ plains_in is) × (options_in is ≡ []) × (list_all is_plain ws ≡ true)
 only_plains _ _ nothing e = (refl, refl, refl)
@@ -35,7 +35,7 @@ only_rule : (r : CommandRule) → Contains (rules_of commands.Built) r → run_a
 only_rule r (zero, lt, is) = is
 only_rule r (suc k, lt, is) = absurd (omega arith)
 
--- the words are any first word, `run` and a plain word
+-- the arguments are any first one, `run` and a positional argument
 pub built_words : (words : List Text) (r : Request) → Asks commands.Built words r
     → (first name : Text) × (words ≡ first ∷ codes "run" ∷ name ∷ []) × (is_plain name ≡ true) × (r ≡ sum_alone name)
 built_words words r a = by_rule a.rule a.items (only_rule a.rule a.known) a.is_use a.asked
@@ -73,7 +73,7 @@ built_words words r a = by_rule a.rule a.items (only_rule a.rule a.known) a.is_u
         (subst (λ (x : CommandRule). IsUse (table_of_commands commands.Built) words x.usage items) (sym is) h)
         (subst (λ (x : CommandRule). x.asked (plains_in items) (values_of items) ≡ Some r) (sym is) asked)
 
--- and such words ask for the sum of the file
+-- and such arguments ask for the sum of the file
 pub built_asks : (first name : Text) → is_plain name ≡ true → Asks commands.Built (first ∷ codes "run" ∷ name ∷ []) (sum_alone name)
 built_asks first name e = record {
   rule = run_alone;

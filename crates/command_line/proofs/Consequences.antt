@@ -1,4 +1,4 @@
--- What follows of what words ask.
+-- What follows from the definition of what arguments ask.
 use Rattle.std.proofs.Common.{◌≡◌, List, Some, sym, ap₂, ◌∙◌}
 use Rattle.std.proofs.lemmas.Option.{same_Some}
 use Rattle.clap.specs.Walk.{Text}
@@ -12,7 +12,7 @@ use Rattle.command_line.specs.Requests.{Request}
 use Rattle.command_line.proofs.Rules.{answered}
 use Rattle.command_line.proofs.Sound.{sound}
 
--- no list of words asks for two things
+-- no list of arguments asks for two things
 pub one_request : (c : Commands) (words : List Text) (r s : Request) → Asks c words r → Asks c words s → r ≡ s
 one_request c words r s a b =
     let (same, items) = one_use _ words a.rule.usage b.rule.usage a.items b.items (sound c) a.is_use b.is_use in

@@ -19,7 +19,7 @@ and_both : (a b : Bool) → (a && b) ≡ true → (a ≡ true) × (b ≡ true)
 and_both true b e = (refl, e)
 and_both false b e = absurd (false≢true e)
 
--- ---- as many words as there are slots
+-- ---- as many positional arguments as there are slots
 
 pub one_word : (s : Slot) (ws : List Text) → (nat_le 1 (length ws) && plains_fit (s ∷ []) ws) ≡ true → (a : Text) × (ws ≡ a ∷ []) × (fits s.limit a ≡ true)
 one_word s [] e = absurd (false≢true e)

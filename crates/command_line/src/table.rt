@@ -9,7 +9,7 @@ use crate::arguments::{
 use crate::files::{PROBLEMS, SHARDS};
 use command_words::{CommandRow, Program};
 
-/// Which commands are taken.
+/// Which commands are accepted.
 #[derive(Clone, Copy, Debug, PartialEq, Eq)]
 pub enum Commands {
     /// Those that the program has today: `run FILE`, without options.
@@ -149,10 +149,10 @@ const ALL_ROWS: [CommandRow<'static>; 11] = [
     },
 ];
 
-/// What is printed of words that name no command.
+/// What is printed if the arguments name no command.
 const BUILT_USAGE: &str = "locus run FILE\n\n  FILE  a problem file";
 
-/// What is printed of words that name no command.
+/// What is printed if the arguments name no command.
 const ALL_USAGE: &str = concat!(
     "locus COMMAND ..\n\n",
     "  run FILE [--workers N] [--budget N] [--stop-file NAME]     sum a problem and print its residues and fractions\n",

@@ -15,7 +15,7 @@ use Rattle.command_words.specs.declared.table.Limit.{Limit}
 use Rattle.command_words.specs.Usages.{Slot, Usage, different, is_among}
 use Rattle.command_words.specs.Clap.{option_rule, parser_for, plain_rules, rules_for}
 
--- an argument: a slot, with its place where it is a plain word
+-- an argument of clap: a slot, with its position if it is a positional argument
 pub record Arg : Type 0 where
   pub id : Text
   pub limit : Limit
@@ -44,7 +44,7 @@ option_arg s = record { id = s.name; limit = s.limit; required = false; place = 
 abbrev pub plain_arg : Bool → ℕ → Slot → Arg
 plain_arg required place s = record { id = s.name; limit = s.limit; required = required; place = Some place }
 
--- the place behind this one
+-- the position after this one
 abbrev pub place_after : ℕ → ℕ
 place_after i = min (i + 1) usize_max
 
@@ -78,7 +78,7 @@ pub find_map : {A B : Type 0} (f : A → B) (p : B → Bool) (xs : List A) → f
 find_map f p [] = refl
 find_map f p (x ∷ xs) = found_step f (p (f x)) x _ _ (find_map f p xs)
 
--- what is found passes where all pass
+-- what is found passes if all pass
 found_fails : {A : Type 0} (q r : A → Bool) (xs : List A) (a : A) → list_any r xs ≡ false → find q xs ≡ Some a → r a ≡ false
 found_fails q r [] a none e = cc
 found_fails q r (x ∷ xs) a none e = step (q x) (r x) (list_any r xs) (find q xs) refl none e (found_fails q r xs a)

@@ -20,7 +20,7 @@ use Rattle.command_words.specs.Clap.{app_for}
 use Rattle.command_words.specs.Taken.{AreTaken, Holds, IsGiven, IsUse}
 use Rattle.command_words.proofs.Args.{same_text}
 use Rattle.command_words.proofs.Rows.{empty}
-use Rattle.command_words.proofs.Walks.{AreWords}
+use Rattle.command_words.proofs.Passing.{AreWords}
 use Rattle.command_words.proofs.Items.{is_used, is_words, items_of}
 use Rattle.command_words.proofs.Texts.{are_words}
 use Rattle.command_words.proofs.Said.{passes_first, plain_passes, said, says}
@@ -88,7 +88,7 @@ name_plain (v ∷ table) u plains (suc k, lt, is) = name_plain table u (and_both
 abbrev pub ArePassed : List Text → Type 0
 ArePassed words = list_any is_refused_first (drop 1 words) ≡ false
 
--- words of the table are a use
+-- words that the table allows are a use
 find_use : (table : List Usage) (words : List Text) → ArePassed words → is_words table words ≡ true → AreTaken table words
 find_use table [] passes e = absurd (false≢true e)
 find_use table (first ∷ []) passes e = absurd (false≢true e)
@@ -123,7 +123,7 @@ use_found table words differ (u, items, h) =
     let whole : is_words table (h.first ∷ u.name ∷ h.rest) ≡ true = rw (row_named table u differ h.row, said h.rest items h.says, h.allowed) refl in
     ap (is_words table) h.split ∙ whole
 
--- words that are taken pass the first look
+-- words that are accepted pass the first look
 pub taken_passes : (table : List Usage) (words : List Text) → is_sound_table table ≡ true → AreTaken table words → ArePassed words
 taken_passes table words sound (u, items, h) =
     let named : is_refused_first u.name ≡ false = plain_passes u.name (name_plain table u (sound_names table sound).0 h.row) in

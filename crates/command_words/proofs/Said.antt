@@ -12,7 +12,7 @@ use Rattle.clap.proofs.LexerLemmas.{name_and_value-at, name_and_value-without}
 use Rattle.command_words.specs.Usages.{is_plain}
 use Rattle.command_words.specs.Words.{Item, plain, option, Says, nothing, bare_word, apart, joined, has_empty_value, is_empty, is_empty_option, is_name, is_refused_first}
 use Rattle.command_words.proofs.Items.{attached, alone, bare, form_by, form_of, long_form, items_by, items_of, more, rest_by, rest_of}
-use Rattle.command_words.proofs.Walks.{from_more, from_rest}
+use Rattle.command_words.proofs.Passing.{from_more, from_rest}
 use Rattle.command_words.proofs.Bools.{or_false, not_true}
 
 lacks_byte : (xs : Text) → has_byte 61 xs ≡ false → Lacks 61 xs

@@ -10,7 +10,7 @@ use Rattle.std.specs.Str.{IsUtf8, chars}
 use Rattle.clap.specs.Lexer.{short_of, short_of_rest}
 use Rattle.clap.specs.Walk.{Text}
 use Rattle.command_words.specs.Words.{is_refused_first}
-use Rattle.command_words.proofs.Walks.{AreWords, IsWord}
+use Rattle.command_words.proofs.Passing.{AreWords, IsWord}
 use Rattle.command_words.proofs.Bools.{or_false}
 
 first_of : (cs bs : List ℕ) → encode_utf8_all cs ≡ bs → 0 < length bs → (c : ℕ) × (slice_get cs 0 ≡ Some c)

@@ -1,4 +1,5 @@
--- The walk over the words up to the subcommand, and the law for all words.
+-- The walk over the words of the command line up to the subcommand, and the law for all lists of words: clap accepts
+-- them exactly if the table does.
 use Rattle.std.proofs.Common.{◌≡◌, cond, ℕ, List, [], ◌∷◌, ◌++◌, map, drop, fold, find, Option, Some, None, option_map, is_some, Bool, true, false, ◌&&◌, ◌||◌, length, slice_get, refl, ap, ap₂, ◌∙◌, sym, subst}
 use Rattle.std.proofs.lemmas.Bool.{false≢true}
 use Rattle.std.proofs.lemmas.Option.{same_Some}
@@ -23,7 +24,8 @@ use Rattle.command_words.specs.Clap.{app_for}
 use Rattle.command_words.specs.Rows.{rows_for}
 use Rattle.command_words.proofs.Args.{args_for, rules_built}
 use Rattle.command_words.proofs.Rows.{empty}
-use Rattle.command_words.proofs.Walks.{AreWords, IsWord, leaf, level_leaves, level_reads, no_chars, take_items}
+use Rattle.command_words.proofs.Passing.{AreWords, IsWord, leaf, no_chars, take_items}
+use Rattle.command_words.proofs.Walks.{level_leaves, level_reads}
 use Rattle.command_words.proofs.Uses.{sound_different, sound_use, sound_values}
 use Rattle.command_words.proofs.Bools.{and_false, or_else_end}
 
@@ -157,7 +159,7 @@ tested : (program : Text) (table : List Usage) (word : Text) (ws : List Text) (o
 tested program table word ws None sound e is are = other_fault program table word ws e is
 tested program table word ws (Some u) sound e is are = ap empty (command_fault program table u word ws e) ∙ use_is u ws (sound_named table word u sound e) are
 
--- clap takes a list of words exactly where it is of the table
+-- clap accepts a list of words exactly if the table allows it
 pub law : (program : Text) (table : List Usage) (words : List Text) → list_all is_sound table ≡ true → AreWords (drop 1 words) → empty (fault_of (app_for program table) words) ≡ is_words table words
 unfolding clap_on_literals
 law program table [] sound are = refl

@@ -1,4 +1,4 @@
--- The plain words and the options of a use, read back from the rows of its values.
+-- The plain words (positional arguments) and the options of a use, read back from the rows of its values.
 use Rattle.std.proofs.Common.{◌≡◌, ◌≤◌, ℕ, zero, suc, ◌+◌, List, [], ◌∷◌, ◌++◌, drop, Option, Some, None, Bool, true, false, ◌&&◌, ◌||◌, refl, sym, ap, subst, ◌∙◌, arith, cond}
 use Rattle.std.specs.Prelude.{option_map, slice_get, find, length, nat_le, not}
 use Rattle.std.specs.Option.{option_map_or}
@@ -13,7 +13,7 @@ use Rattle.command_words.specs.Usages.{Slot, Usage, different, fits, is_among, i
 use Rattle.command_words.specs.Words.{Item, plain, option, is_use, names_in, option_fits, options_in, plains_fit, plains_in, slot_named, value_named}
 use Rattle.command_words.specs.Rows.{pair_then, pairs_of, rows_for, texts_of, texts_then, values_in}
 use Rattle.command_words.proofs.Args.{flipped, same_text}
-use Rattle.command_words.proofs.Uses.{apart, slot_found}
+use Rattle.command_words.proofs.Lookups.{apart, slot_found}
 use Rattle.command_words.proofs.Bools.{or_true, or_false, and_both, not_true}
 
 pub first_value_in : (name : Text) (values : List (Text × Text)) → first_of name (rows_for values) ≡ value_named name values
@@ -48,7 +48,7 @@ option_value (s ∷ slots) (option n v ∷ items) name other = by_name (bytes_eq
 abbrev NoOption : Text → List Item → Type 0
 NoOption name items = is_among name (names_in (options_in items)) ≡ false
 
--- the value of a place is the word that stands there
+-- the value at a position is the word there
 pub plain_value : (before slots : List Slot) (s : Slot) (items : List Item) → different (names_of (before ++ s ∷ slots)) ≡ true → NoOption s.name items
     → value_named s.name (values_in (before ++ s ∷ slots) items) ≡ slice_get (plains_in items) (length before)
 plain_value [] slots s [] diff none = refl
@@ -69,7 +69,7 @@ plain_value (b ∷ before) slots s (option n v ∷ items) diff none =
 
 -- ---- of a use
 
--- texts that differ differ at the front
+-- if all texts of a list differ, so do those of a prefix
 front : (xs ys : List Text) → different (xs ++ ys) ≡ true → different xs ≡ true
 front [] ys d = refl
 front (x ∷ xs) ys d =
@@ -100,7 +100,7 @@ not_option u items t fit e = by_test (is_among t (names_in (options_in items))) 
 used_options : (u : Usage) (items : List Item) → is_use u items ≡ true → list_all (option_fits u.options) (options_in items) ≡ true
 used_options u items used = (and_both (list_all (option_fits u.options) (options_in items)) _ (and_both (nat_le u.least (length (plains_in items)) && plains_fit u.plains (plains_in items)) _ used).1).0
 
--- the value of the slot at a place is the word at that place
+-- the value of the slot at a position is the word at that position
 pub place_value : (u : Usage) (items : List Item) (before slots : List Slot) (s : Slot) → is_sound u ≡ true → is_use u items ≡ true → u.plains ≡ before ++ s ∷ slots
     → value_named s.name (values_in u.plains items) ≡ slice_get (plains_in items) (length before)
 place_value u items before slots s sound used split =
@@ -114,7 +114,7 @@ place_value u items before slots s sound used split =
 pub name_value : (u : Usage) (items : List Item) (t : Text) → is_among t (names_of u.plains) ≡ false → value_named t (values_in u.plains items) ≡ value_named t (options_in items)
 name_value u items t other = option_value u.plains items t other
 
--- ---- the plain words, read back by the names of their places
+-- ---- the plain words, read back by the names of their slots
 
 drop_none : (k : ℕ) → drop {A = Text} k [] ≡ []
 drop_none zero = refl
@@ -140,7 +140,7 @@ places_read u items sound used few before (s ∷ slots) split =
     let longer : length (before ++ s ∷ []) ≡ suc (length before) = length-append before (s ∷ []) ∙ omega arith in
     rw (rest, longer, first_value_in s.name (values_in u.plains items), place_value u items before slots s sound used split) (next_text (plains_in items) (length before))
 
--- the plain words of a use are the values of its places
+-- the plain words of a use are the values of its slots
 pub words_read : (u : Usage) (items : List Item) → is_sound u ≡ true → is_use u items ≡ true → texts_of u.plains (rows_for (values_in u.plains items)) ≡ plains_in items
 words_read u items sound used =
     let fit = (and_both (nat_le u.least (length (plains_in items))) _ (and_both (nat_le u.least (length (plains_in items)) && plains_fit u.plains (plains_in items)) _ used).0).1 in
