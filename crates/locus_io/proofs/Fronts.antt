@@ -13,7 +13,7 @@ pub appends_more : (old : Option (List ℕ)) (now new : Option (List ℕ)) (x y 
 appends_more None now new x y a b = grind arith
 appends_more (Some o) now new x y a b = rw (b, a, append_assoc)
 
--- a front of the rest was written too
+-- a prefix of the rest was written too
 pub appends_next : (old now new : Option (List ℕ)) (text rest : List ℕ) (n : ℕ) → AppendsBefore old now text rest → Appends now new (take n rest) → AppendsBefore old new text (drop n rest)
 appends_next old now new text rest n before piece = record {
   front = before.front ++ take n rest;
