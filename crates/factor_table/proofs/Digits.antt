@@ -20,6 +20,6 @@ same_number x y x' y' b h h' e =
     dite (dec_lt x x') (λ less. let m = above x y x' y' b h less in absurd (omega arith))
     (λ not_less. dite (dec_lt x' x) (λ more. let m = above x' y' x y b h' more in absurd (omega arith)) (λ not_more. omega arith))
 
--- a number tells its digits
+-- a number determines its digits
 pub digits : (x y x' y' b : ℕ) → y < b → y' < b → x * b + y ≡ x' * b + y' → (x ≡ x') × (y ≡ y')
 digits x y x' y' b h h' e = let same = same_number x y x' y' b h h' e in let products = ap (λ z. z * b) same in (same, omega arith)

@@ -1,4 +1,4 @@
--- Lists that are copied item by item.
+-- The words with which a table is opened: lists that are copied item by item, and zeros up to the number of words.
 use Rattle.std.proofs.Common.{◌≡◌, ℕ, ◌+◌, ◌-◌, ◌^◌, ◌<◌, ◌≤◌, List, [], ◌∷◌, ◌++◌, length, take, replicate, get_or, map, Some, append_assoc, length-append, sym, ap, ◌∙◌, arith}
 use Rattle.std.specs.List.{slice_get}
 use Rattle.std.proofs.lemmas.List.{take_more, replicate_more, length-map, length-replicate}
@@ -6,7 +6,7 @@ use Rattle.std.proofs.lemmas.Option.{get_or_from_slice_get, slice_get_within}
 use Rattle.arithmetic.specs.Numbers.{reduce}
 use Rattle.factor_table.specs.declared.layout.Sizes.{Sizes}
 use Rattle.factor_table.specs.declared.parameters.Parameters.{Parameters}
-use Rattle.factor_table.specs.Places.{first_factor, words_of}
+use Rattle.factor_table.specs.KeyPlaces.{first_factor, words_of}
 use Rattle.factor_table.specs.Factors.{sizes_of}
 use Rattle.factor_table.specs.Rule.{first_words}
 

@@ -9,7 +9,7 @@ use Rattle.residue.specs.Answers.{GivesResidue}
 use Rattle.factor_table.specs.declared.key.Key.{Key}
 use Rattle.factor_table.specs.declared.layout.Sizes.{Sizes}
 use Rattle.factor_table.specs.declared.parameters.Parameters.{Parameters}
-use Rattle.factor_table.specs.Places.{AreWithinLimits, first_factor, words_of, place_of}
+use Rattle.factor_table.specs.KeyPlaces.{AreWithinLimits, first_factor, words_of, place_of}
 use Rattle.factor_table.specs.Factors.{sizes_of, modulus_at, class_at, fraction_of, IsKeyOf, IsWordOf, word_of}
 use Rattle.factor_table.specs.Rule.{IsFactorAt}
 use Rattle.factor_table.proofs.OneToOne.{place_from, place_below, one_to_one}

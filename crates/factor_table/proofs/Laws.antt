@@ -6,7 +6,7 @@ use lib.ListN.{get_elem?}
 use Rattle.factor_table.specs.declared.key.Key.{Key}
 use Rattle.factor_table.specs.declared.parameters.Parameters.{Parameters}
 use Rattle.factor_table.specs.declared.table.View.{View}
-use Rattle.factor_table.specs.Places.{IsWithin, place_of}
+use Rattle.factor_table.specs.KeyPlaces.{IsWithin, place_of}
 use Rattle.factor_table.specs.Factors.{sizes_of, modulus_at, fraction_of, HasFraction, IsKeyOf, IsWordOf}
 use Rattle.factor_table.specs.Rule.{AreFactors, IsFactorAt}
 use Rattle.factor_table.proofs.OneToOne.{place_from, one_to_one}

@@ -13,7 +13,7 @@ use Rattle.arithmetic.specs.Numbers.{reduce}
 use Rattle.factor_table.specs.declared.parameters.Parameters.{Parameters}
 use Rattle.factor_table.specs.declared.table.Move.TheVariants.{Fill}
 use Rattle.factor_table.specs.declared.table.View.{View}
-use Rattle.factor_table.specs.Places.{first_factor, words_of}
+use Rattle.factor_table.specs.KeyPlaces.{first_factor, words_of}
 use Rattle.factor_table.specs.Factors.{sizes_of}
 use Rattle.factor_table.specs.Rule.{AreFactors, Holds, IsFactorAt, Looks, Fills, with_place, looked, divided, new_view, joined, spent, opening_view, first_words}
 use Rattle.factor_table.proofs.Views.{AllFit, all_fit, after_set, after_snoc, only_view, fits_moves, fits_place, fits_looked, fits_joined, fits_spent, fits_opening, fits_still}
@@ -121,7 +121,7 @@ opens S p words n e count =
       known = (λ j u at. (fit j u at).known);
     }
 
--- ---- the same steps, for a table that was told these parameters
+-- ---- the same steps, for a table with these parameters
 
 pub looks_told : (S : Type 0) (q p : Parameters) (slots id place : ℕ) (me : Me S View) → q ≡ p → me.0.parameters ≡ p → first_factor (sizes_of p) ≤ place
     → Allows (Holds {S = S} q) slots id me place (λ n. n) (Looks (step slots place 0 0 none) me)

@@ -3,7 +3,7 @@ use Rattle.std.proofs.Common.{◌≡◌, ℕ, zero, suc, ◌+◌, ◌-◌, ◌*�
 use Rattle.factor_table.specs.declared.key.Key.{Key}
 use Rattle.factor_table.specs.declared.key.Key.TheVariants.{Edge, Flag, Tangent, Pair, ClassEdge, ClassVertex, Tip}
 use Rattle.factor_table.specs.declared.layout.Sizes.{Sizes}
-use Rattle.factor_table.specs.Places.{IsEnd, IsWithin, ends, flags, end_number, flag_number, words_of_modulus, key_number, first_factor, words_of, place_of}
+use Rattle.factor_table.specs.KeyPlaces.{IsEnd, IsWithin, ends, flags, end_number, flag_number, words_of_modulus, key_number, first_factor, words_of, place_of}
 use Rattle.factor_table.proofs.Digits.{digits, digit_below}
 use Rattle.factor_table.proofs.Strides.{end_below, flag_below}
 
@@ -25,7 +25,7 @@ abbrev pub total : List ℕ → ℕ
 total [] = 0
 total (n ∷ ns) = n + total ns
 
--- a number tells its part, and its number there
+-- a number determines its part, and its number there
 part_told : (ns : List ℕ) (k x l y : ℕ) → x < part_size ns k → y < part_size ns l → in_part ns k x ≡ in_part ns l y → (k ≡ l) × (x ≡ y)
 part_told [] k x l y h i e = absurd (omega arith)
 part_told (n ∷ ns) zero x zero y h i e = (refl, e)
@@ -76,7 +76,7 @@ kind_below s (Pair c c1 a1 c2 a2) w = digit_below (flag_number s c c1 a1) (end_n
 kind_below s (ClassEdge class i j a) w = digit_below class (flag_number s i j a) s.classes (flags s) w.0 (flag_below s i j a w.1 w.2)
 kind_below s (ClassVertex class c n) w = digit_below class (end_number s c n) s.classes (ends s) w.0 (end_below s c n w.1)
 
--- ---- ends and flags tell their colours and degrees
+-- ---- the numbers of ends and flags determine their colours and degrees
 
 same_end : (s : Sizes) (u a v b : ℕ) → IsEnd s u a → IsEnd s v b → end_number s u a ≡ end_number s v b → (u ≡ v) × (a ≡ b)
 same_end s u a v b m n e =

@@ -2,7 +2,7 @@
 use Rattle.std.proofs.Common.{◌≡◌, ℕ, ◌-◌, ◌*◌, ◌^◌, ◌<◌, ◌≤◌, ap, arith}
 use Rattle.factor_table.specs.declared.layout.Sizes.{Sizes}
 use Rattle.factor_table.specs.declared.layout.Strides.{Strides}
-use Rattle.factor_table.specs.Places.{AreWithinLimits, AreStrides, IsEnd, ends, flags, end_number, flag_number, words_of_modulus, words_of}
+use Rattle.factor_table.specs.KeyPlaces.{AreWithinLimits, AreStrides, IsEnd, ends, flags, end_number, flag_number, words_of_modulus, words_of}
 use Rattle.factor_table.proofs.Digits.{product_le, digit_below}
 
 -- the greatest strides, at rank 12, degree 10, 8 moduli and 512 classes

@@ -32,7 +32,7 @@ pub only_view : (p : Parameters) (words : List ℕ) (w : View) → Fits p words 
 only_view p words w new zero u e = subst (Fits p words) (some-injective w u e) new
 only_view p words w new (suc j) u e = absurd (some-ne-none u (sym e))
 
--- the rule says nothing of the steps that a view tells
+-- the rule does not depend on the steps that a view lists
 pub fits_moves : (p : Parameters) (words : List ℕ) (v : View) (moves : List Move) → Fits p words v → Fits p words (record v { moves = moves })
 fits_moves p words v moves f = record { told = f.told; known = f.known }
 

@@ -10,7 +10,7 @@ use Rattle.localisation.specs.ClassValue.{negated_inner_product}
 use Rattle.factor_table.specs.declared.key.Key.TheVariants.{Edge, Flag, Tangent, Pair, ClassEdge, ClassVertex, Tip}
 use Rattle.factor_table.specs.declared.layout.Sizes.{Sizes}
 use Rattle.factor_table.specs.declared.parameters.Parameters.{Parameters}
-use Rattle.factor_table.specs.Places.{words_of_modulus, words_of, place_of}
+use Rattle.factor_table.specs.KeyPlaces.{words_of_modulus, words_of, place_of}
 use Rattle.factor_table.specs.Factors.{parameters, sizes_of, fraction_of, IsWordOf}
 
 -- ---- the greatest table
@@ -31,7 +31,8 @@ greatest_words = refl
 line : Parameters
 line = parameters (pos 1 ∷ pos 3 ∷ []) 2 (101 ∷ []) (R1 1 ∷ [])
 
--- three words for the weights and the modulus, three times 8 for edges, flags and tips, 2 for tangents, 32 for pairs, and 8 and 4 for the class
+-- three words for the weights and the modulus, three times 8 for edges, flags and tips, 2 for tangents, 32 for pairs,
+-- and 8 and 4 for the class
 words_of_line : words_of (sizes_of line) ≡ 73
 unfolding line words_of
 words_of_line = refl

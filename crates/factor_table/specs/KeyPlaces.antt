@@ -1,4 +1,4 @@
--- The place of a key: which word of the table is its own.
+-- The place of a key: the index of the word of the table that is its own.
 use Rattle.std.specs.Prelude.{ℕ, ◌+◌, ◌-◌, ◌*◌, ◌<◌, ◌≤◌, ◌≡◌}
 use Rattle.factor_table.specs.declared.key.Key.{Key}
 use Rattle.factor_table.specs.declared.layout.Sizes.{Sizes}

@@ -1,5 +1,5 @@
 use Rattle.std.proofs.Common.{below_more}
-use Rattle.factor_table.proofs.Lists.{item_limited, item_copied}
+use Rattle.factor_table.proofs.InitialWords.{item_limited, item_copied}
 use Rattle.factor_table.proofs.copies.moduli_like.Goals as goal
 
 pub loop-index-preserved : goal.loop-index-preserved

@@ -1,6 +1,6 @@
 use Rattle.std.proofs.Common.{[], ◌∷◌, ◌++◌, length, map, ap, ◌∙◌, arith}
 use Rattle.arithmetic.specs.Numbers.{reduce}
-use Rattle.factor_table.proofs.Lists.{zero_more, blank}
+use Rattle.factor_table.proofs.InitialWords.{zero_more, blank}
 use Rattle.factor_table.proofs.opening.blank_words.Goals as goal
 
 pub loop-preserved : goal.loop-preserved

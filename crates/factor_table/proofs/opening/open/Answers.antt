@@ -1,5 +1,5 @@
 use Rattle.std.proofs.Common.{◌∙◌}
-use Rattle.factor_table.proofs.Lists.{length_blank}
+use Rattle.factor_table.proofs.InitialWords.{length_blank}
 use Rattle.factor_table.proofs.Moves.{opens}
 use Rattle.factor_table.proofs.opening.open.Goals as goal
 

@@ -1,5 +1,5 @@
 use Rattle.std.proofs.Common.{[], ◌∷◌, ◌++◌, take, append_assoc, ap, ◌∙◌}
-use Rattle.factor_table.proofs.Lists.{take_next}
+use Rattle.factor_table.proofs.InitialWords.{take_next}
 use Rattle.factor_table.proofs.opening.push_moduli.Goals as goal
 
 pub loop-index-preserved : goal.loop-index-preserved

@@ -1,5 +1,5 @@
 use Rattle.std.proofs.Common.{ℕ, ◌<◌, ◌≤◌, sym, subst, ◌∙◌}
-use Rattle.factor_table.specs.Places.{first_factor, words_of}
+use Rattle.factor_table.specs.KeyPlaces.{first_factor, words_of}
 use Rattle.factor_table.proofs.OneToOne.{place_from, place_below, one_to_one}
 use Rattle.factor_table.proofs.layout.Layout.place.Goals as goal
 

@@ -1,5 +1,6 @@
+-- No sum or product overflows, since a table has fewer than 9,300,000 words; the strides are what they are named for.
 use Rattle.std.proofs.Common.{arith}
-use Rattle.factor_table.specs.Places.{words_of}
+use Rattle.factor_table.specs.KeyPlaces.{words_of}
 use Rattle.factor_table.proofs.Strides.{limited, words_limited, strides_words}
 use Rattle.factor_table.proofs.layout.Layout.words.Goals as goal
 

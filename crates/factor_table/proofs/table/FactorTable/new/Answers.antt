@@ -3,7 +3,7 @@ use Rattle.std.proofs.lemmas.List.Elements.{All-push}
 use Rattle.atomic_table.specs.Table.{Me}
 use Rattle.factor_table.specs.declared.table.FactorSeat.{FactorSeat}
 use Rattle.factor_table.specs.declared.table.View.{View}
-use Rattle.factor_table.specs.Places.{words_of}
+use Rattle.factor_table.specs.KeyPlaces.{words_of}
 use Rattle.factor_table.proofs.Keys.{some_word}
 use Rattle.factor_table.proofs.Strides.{words_limited}
 use Rattle.factor_table.proofs.Moves.{splits}
