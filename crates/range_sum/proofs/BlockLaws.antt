@@ -18,10 +18,11 @@ use Rattle.problem.specs.declared.problem.Problem.{Problem}
 use Rattle.problem.specs.Problems.{view}
 use Rattle.problem.specs.Sums.{is_bad_of, places_of, ArePartialSums}
 use Rattle.range_sum.specs.Totals.{ratio_at, AddsFraction, AddsResidue, AreRatiosOf}
-use Rattle.range_sum.proofs.Places.{has_unit, unit_unless, nowhere_bad, bad_at_place, is_bad_at, at_most_64, within_64}
+use Rattle.range_sum.proofs.BadTrees.{has_unit, unit_unless, nowhere_bad, bad_at_place, is_bad_at}
+use Rattle.range_sum.proofs.SumIndices.{at_most_64, within_64}
 use Rattle.range_sum.proofs.RangeLaws.{modulus_above}
 
--- ---- the bottom of a partial sum is a unit exactly where the bottoms of its contributions are
+-- ---- the bottom of a partial sum is a unit exactly if the bottoms of its contributions are
 abbrev HasUnitBottom : ℕ → Fraction → Type 0
 HasUnitBottom m f = gcd (nat_abs f.bottom) m ≡ 1
 
@@ -47,7 +48,7 @@ unit_of_all ws s lo (suc n) terms m above h =
     (unit-*ℤ m (partial_sum ws s lo (lo + n) terms).bottom (contribution ws terms (tree_of s (lo + n))).bottom above
     (unit_of_all ws s lo n terms m above (λ j from below. h j from (omega arith))) (h (lo + n) (omega arith) (omega arith))))
 
--- ---- a block has a residue at each place exactly where none of its numbers is bad
+-- ---- a block has a residue at each index exactly if none of its numbers is bad
 pub none_in_block : (p : Problem) (start stop : ℕ)
     → ((place : ℕ) → place < places_of (view p) → HasUnitBottom (modulus_at p.moduli place) (partial_sum p.setup p.shape start stop (integral_at p.moduli p.integrals place)))
     → NoneBad (is_bad_of (view p)) start stop

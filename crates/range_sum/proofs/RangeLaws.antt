@@ -19,9 +19,9 @@ use Rattle.problem.specs.declared.problem.Problem.{Problem}
 use Rattle.problem.specs.Problems.{view}
 use Rattle.problem.specs.Sums.{count_of, ArePartialSums, AreKontsevichSums}
 use Rattle.decorated_tree.proofs.Counts.{limits}
-use Rattle.range_sum.proofs.Places.{at_most_64}
+use Rattle.range_sum.proofs.SumIndices.{at_most_64}
 
--- a decorated tree of the shape, and that of the number k where k is below the end
+-- a decorated tree of the shape, and that of the number k if k is below the end
 pub record IsTreeUpTo (s : TreeShape) (end k : ℕ) (t : Tree) : Type 0 where
   pub value : k < end → tree_view t ≡ tree_of s k
   pub decorated : IsTrue (is_decorated s (tree_view t))

@@ -3,7 +3,7 @@ use Rattle.std.proofs.lemmas.Option.{get_or_from_slice_get}
 use Rattle.arithmetic.specs.Fractions.{Fraction}
 use Rattle.residue.specs.Answers.{GivesResidue}
 use Rattle.residue.specs.Ratios.{IsRatioOf}
-use Rattle.range_sum.proofs.Places.{ratio_below}
+use Rattle.range_sum.proofs.SumIndices.{ratio_below}
 use Rattle.range_sum.proofs.at_tree.tree_residue.Goals as goal
 
 pub residue-requires : goal.residue-requires

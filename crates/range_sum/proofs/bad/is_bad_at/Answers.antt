@@ -1,6 +1,6 @@
 use Rattle.std.proofs.Common.{[], get_or, slice_index, sym, ◌∙◌, arith}
 use Rattle.localisation.specs.Contribution.{contribution}
-use Rattle.range_sum.proofs.Places.{bad_by_integral, good_by_integrals, is_lacking}
+use Rattle.range_sum.proofs.BadTrees.{bad_by_integral, good_by_integrals, is_lacking}
 use Rattle.range_sum.proofs.bad.is_bad_at.Goals as goal
 
 pub returns-then-is_err : goal.returns-then-is_err

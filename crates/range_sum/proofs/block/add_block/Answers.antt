@@ -3,7 +3,8 @@ use Rattle.arithmetic.specs.Fractions.{Fraction}
 use Rattle.localisation.specs.Contribution.{partial_sum}
 use Rattle.localisation.specs.Agreement.{modulus_at, integral_at}
 use Rattle.range_sum.specs.Totals.{ratio_at, AddsResidue}
-use Rattle.range_sum.proofs.Places.{lacks_at, added_next, rest_next, within_64, modulus_there, answer_there}
+use Rattle.range_sum.proofs.BadTrees.{lacks_at}
+use Rattle.range_sum.proofs.SumIndices.{added_next, rest_next, within_64, modulus_there, answer_there}
 use Rattle.range_sum.proofs.BlockLaws.{some_in_block, none_in_block}
 use Rattle.range_sum.proofs.block.add_block.Goals as goal
 

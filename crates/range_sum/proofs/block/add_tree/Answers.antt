@@ -3,7 +3,7 @@ use Rattle.decorated_tree.specs.Trees.{tree_view}
 use Rattle.localisation.specs.Contribution.{contribution}
 use Rattle.localisation.specs.Agreement.{modulus_at, integral_at}
 use Rattle.range_sum.specs.Totals.{ratio_at, AddsFraction}
-use Rattle.range_sum.proofs.Places.{added_next, rest_next, below_there, ratio_below, adds_there, place_below, within_64}
+use Rattle.range_sum.proofs.SumIndices.{added_next, rest_next, below_there, ratio_below, adds_there, place_below, within_64}
 use Rattle.range_sum.proofs.block.add_tree.Goals as goal
 
 pub plus-requires : goal.plus-requires

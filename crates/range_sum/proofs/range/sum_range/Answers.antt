@@ -1,3 +1,5 @@
+-- The loop keeps that none of the numbers so far is bad, and that the sums are the residues of their partial sums. The
+-- partial sum over all numbers is Kontsevich's sum.
 use Rattle.std.proofs.Common.{refl, ◌∙◌, ◌+◌, ◌≤◌, arith}
 use Rattle.problem.specs.Problems.{view}
 use Rattle.problem.specs.Sums.{is_bad_of}
