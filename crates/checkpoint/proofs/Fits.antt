@@ -115,7 +115,7 @@ residues_fit_from ms i (x ∷ xs) h =
     let later = residues_fit_from ms (i + 1) xs (λ j lt. subst (λ (p : ℕ). get_or xs j 0 < modulus_at ms p) (omega arith) (h (suc j) (omega arith))) in
     rw (first, later) refl
 
--- the first residue that is not below its modulus, counted from place i on
+-- the first residue that is not below its modulus, counted from index i on
 pub record FirstAbove (ms : List ℕ) (i : ℕ) (xs : List ℕ) (e : CheckpointError) : Type 0 where
   pub place : ℕ
   pub is : e ≡ ResidueRefused (shown_count (i + place))

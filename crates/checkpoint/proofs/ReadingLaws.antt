@@ -1,4 +1,4 @@
--- The reading of a text gives a state exactly where the text is one of the state, and a refusal exactly where it is that of
+-- The reading of a text gives a state exactly if the text is one of the state, and a refusal exactly if it is that of
 -- the text.
 use Rattle.std.proofs.Common.{◌≡◌, ◌≢◌, ℕ, ◌≤◌, ◌<◌, Bool, true, false, cond, ltb, List, length, Result, Ok, Err, refl, sym, ap, subst, ◌∙◌, arith, inl, inr}
 use Rattle.std.specs.Prelude.{IfOk, IfErr}

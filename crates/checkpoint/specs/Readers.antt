@@ -1,5 +1,5 @@
--- What the steps of reading give. These serve the proofs alone: what a text of a state is, and when a text is refused, is
--- said in Texts and Refusals, and the contract of `read` speaks of those.
+-- What the steps of reading give. These serve the proofs alone: what a text of a state is, and when a text is refused,
+-- is said in Texts and Refusals, and the contract of `read` speaks of those.
 use Rattle.std.specs.Prelude.{◌≡◌, ℕ, zero, suc, ◌+◌, ◌-◌, ◌*◌, ◌^◌, ◌%◌, min, List, [], ◌∷◌, ◌++◌, length, take, drop, slice_index, codes, Bool, true, false, not, ◌&&◌, ◌||◌, ◌==◌, nat_lt, nat_le, bytes_eq, Option, Some, None, option_map, ok_or, Result, Ok, Err, if◌then◌else◌}
 use Rattle.std.specs.List.{concat}
 use Rattle.std.specs.Result.{result_ok}
@@ -145,7 +145,7 @@ counts_fit wanted (row ∷ rows) = do
   _ ← keep (length row == wanted) (ResidueCount (shown_count (length row)) wanted)
   counts_fit wanted rows
 
--- each residue, from the one at a place on, is below its modulus
+-- each residue, from the one at an index on, is below its modulus
 abbrev pub residues_fit : List ℕ → ℕ → List ℕ → Result (Unit {0}) CheckpointError
 residues_fit moduli place [] = Ok tt
 residues_fit moduli place (r ∷ rs) = do

@@ -1,3 +1,5 @@
+-- What the reader answers is the reading of the text, for texts of any length; the four clauses follow from the laws on
+-- readings, states and refusals.
 use Rattle.std.proofs.Common.{Ok, Err}
 use Rattle.checkpoint.proofs.ReadingLaws.{state_is_read, refusal_is_read, gives_state, gives_refusal, gives_only}
 use Rattle.checkpoint.proofs.reading.read.Goals as goal

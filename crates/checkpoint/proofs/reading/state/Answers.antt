@@ -1,3 +1,5 @@
+-- The problem is read first. Then each test in its order gives the refusal of its own cause, and the tests before it
+-- rule out those that come earlier.
 use Rattle.std.proofs.Common.{◌≡◌, ◌≢◌, ◌≤◌, ℕ, Ok, Err, ap, sym, ◌∙◌, length, arith}
 use Rattle.std.specs.List.{concat}
 use Rattle.std.proofs.lemmas.Result.{err_from_is_err_and}
