@@ -65,7 +65,9 @@ impl Shape {
     /// The shape with the greatest colour `r` from 1 to 12, the sum of degrees `d` from 1 to 10 and `m` marks from 0 to
     /// 12.
     ///
-    /// The refusals are tested in the order of [`ShapeError`]'s variants.
+    /// # Errors
+    /// `OutOfLimits` exactly if one of the three is out of these limits; `TooManyTrees` exactly if they are within them, and
+    /// there are more than 2^40 decorated trees.
     pub fn new(r: u8, d: u8, m: u8) -> Result<Self, ShapeError>
         ensures ok { IfOk result (λ shape. shape ≡ shape_of r d m) }
         ensures accepted { IfOk result (λ _. (within_limits (shape_of r d m) ≡ true) × (tree_count (shape_of r d m) ≤ 2 ^ 40)) }

@@ -1,3 +1,5 @@
+-- A term with too many powers, or with powers whose sum is too large, is out of bounds; otherwise the test of the
+-- powers decides. If the powers together are within the bound, so is the exponent of each mark.
 use Rattle.contribution.proofs.ExponentBounds.{bounded, too_many, too_high, enough}
 use Rattle.contribution.proofs.limits.is_term_for.Goals as goal
 

@@ -1,3 +1,5 @@
+-- The loop keeps the ratio of the sum over the terms so far; a term adds the product of its vertices' ratio and its
+-- value's.
 use Rattle.std.proofs.Common.{sym, subst}
 use Rattle.contribution.specs.Terms.{IsTermFor}
 use Rattle.contribution.proofs.TermSums.{terms-more}

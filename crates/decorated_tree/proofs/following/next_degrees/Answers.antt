@@ -1,3 +1,5 @@
+-- The loop goes from the end and keeps that all degrees from its index on are 1. At the first degree above 1 the list
+-- goes up, with the rank one greater; if only the first degree is above 1, the list goes back to the first one.
 use Rattle.std.proofs.Common.{◌-◌, arith}
 use Rattle.decorated_tree.proofs.NextDegrees.{ones_start, ones_more, goes_up, goes_back, degree_small}
 use Rattle.decorated_tree.proofs.following.next_degrees.Goals as goal

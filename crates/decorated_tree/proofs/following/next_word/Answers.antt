@@ -1,3 +1,5 @@
+-- The loop goes from the end and keeps that the letters from its index on went back to 0 (`IsCounted`). A letter that
+-- can be raised gives the next word; if none can, the word was the last.
 use Rattle.std.proofs.Common.{◌-◌, arith}
 use Rattle.decorated_tree.proofs.NextDigits.{letter_below, counted_on, counted_next, counted_through}
 use Rattle.decorated_tree.proofs.following.next_word.Goals as goal

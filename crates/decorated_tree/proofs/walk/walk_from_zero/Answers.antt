@@ -1,3 +1,5 @@
+-- The loops keep that the walk is what the definition has after so many rounds and edges. The walk ends early once it
+-- has all vertices, since later rounds would add nothing.
 use Rattle.std.proofs.Common.{◌-◌, ◌+◌, arith, sym, subst, ap, length}
 use Rattle.decorated_tree.specs.Steps.{AreWithin}
 use Rattle.decorated_tree.proofs.Walking.{walk_of_tree, stepped, not_stepped, walked, walked_all}

@@ -1,3 +1,5 @@
+-- The digits are put together in the order in which the definition reads them; that the tree is one of the shape gives
+-- what each call requires.
 use Rattle.std.proofs.Common.{◌≡◌, ◌-◌, ◌++◌, ap, sym, ◌∙◌, subst, refl, arith, length, take, drop, true}
 use Rattle.trees.specs.Edges.{is_tree}
 use Rattle.trees.specs.Numbering.{AreDegrees}

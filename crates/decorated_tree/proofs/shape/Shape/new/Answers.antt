@@ -1,3 +1,5 @@
+-- The loop keeps the counts so far and their sum. It stops at the first count that is too large, or at the first sum
+-- above the limit; the total is then too large as well.
 use Rattle.std.proofs.Common.{◌≡◌, ◌+◌, ◌<◌, ◌-◌, ◌++◌, ◌∷◌, [], length, arith, sym, ap, ◌∙◌, refl, subst}
 use Rattle.trees.specs.Numbering.{product_of}
 use Rattle.trees.specs.Numbers.{trees_with}

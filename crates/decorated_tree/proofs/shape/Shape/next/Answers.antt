@@ -1,3 +1,5 @@
+-- If the step finds another tree with these edges, it is the next one. Otherwise the tree is made from its number, and
+-- is the next one by definition.
 use Rattle.std.proofs.Common.{◌+◌, sym, subst, arith}
 use Rattle.trees.specs.Decorated.{all_trees}
 use Rattle.trees.specs.Members.{IsIn}

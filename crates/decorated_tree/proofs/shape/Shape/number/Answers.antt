@@ -1,3 +1,6 @@
+-- A tree passes the three tests exactly if it is one of the shape, and then it is a member of the list of all trees;
+-- its digits are within their bases, so its number is below the count and the tree of that number is the tree itself. A
+-- tree that fails a test is none of the shape.
 use Rattle.std.proofs.Common.{◌≡◌, Bool, true, false, length, take, ap, sym, ◌∙◌, subst, refl, arith}
 use Rattle.std.specs.List.{list_all}
 use Rattle.std.proofs.lemmas.List.{length-take-le}

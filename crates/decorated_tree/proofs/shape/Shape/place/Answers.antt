@@ -1,3 +1,5 @@
+-- The loop subtracts the counts one after the other and keeps that the tree of the number is that of the rest among the
+-- trees with at least `n` vertices. It ends before the counts do, since the number is below their sum.
 use Rattle.std.proofs.Common.{arith}
 use Rattle.decorated_tree.proofs.Counts.{limits}
 use Rattle.decorated_tree.proofs.Unranking.{place_start, found, not_found, place_short, never_through}

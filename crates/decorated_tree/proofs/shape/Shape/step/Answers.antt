@@ -1,3 +1,6 @@
+-- The marks, the degrees and the colours go on in this order, like the digits of a counter. Each answer says that the
+-- tree has the next number if one of them goes on after those before it went back to their first values, and that it
+-- was the last with its edges if all went back.
 use Rattle.std.proofs.Common.{◌≡◌, ℕ, ◌-◌, true, false, take, refl, ◌∙◌, subst, arith}
 use Rattle.trees.specs.Decorated.{TreeShape, is_decorated}
 use Rattle.decorated_tree.specs.declared.tree.Tree.{Tree}

@@ -1,3 +1,5 @@
+-- What `tree_by` gives is the tree of the number, and the laws of numbers say that it is decorated, is in the list of
+-- all trees, and has this number.
 use Rattle.std.proofs.Common.{◌≡◌, ap, sym, ◌∙◌, subst, true, arith}
 use Rattle.trees.specs.Decorated.{is_decorated, all_trees}
 use Rattle.trees.specs.Members.{IsIn}

@@ -1,3 +1,5 @@
+-- The digits are cut into letters, colours, the rank of the degrees and marks, each within its bases (`digit_facts`);
+-- the arrays that are filled from them are those of the tree of the digits (`filled_tree`).
 use Rattle.std.proofs.Common.{◌≡◌, ℕ, ◌+◌, ◌-◌, ◌*◌, ◌<◌, ◌≤◌, List, ap, sym, ◌∙◌, length, subst, take, drop, get_or, arith}
 use Rattle.std.proofs.lemmas.List.Elements.{All-weaker, All-same}
 use Rattle.trees.specs.Numbering.{choose}

@@ -1,3 +1,5 @@
+-- The row at a vertex holds the ends at that vertex, since the parts are those of a decorated tree; their number and
+-- the limits of each follow from its shape.
 use Rattle.std.proofs.Common.{◌<◌, sym, subst, ◌∙◌}
 use Rattle.tree_parts.proofs.Shaped.{own_row, below_eleven, shaped_ends, shaped_each, shaped_some, shaped_most}
 use Rattle.tree_parts.proofs.parts.TreeParts.ends_at.Goals as goal

@@ -1,3 +1,5 @@
+-- A decorated tree of this rank has few vertices, edges within them with ends of different colours, and positive
+-- degrees: this is what each call requires. The three arrays that are made are those of the tree (`made`).
 use Rattle.std.proofs.Common.{arith}
 use Rattle.tree_parts.proofs.Making.{limits, total_limited, colours_few, pairs_within, pairs_apart, degree_each, marks_below, shape_is, made}
 use Rattle.tree_parts.proofs.parts.TreeParts.of.Goals as goal
