@@ -29,7 +29,8 @@ pub struct Plan {
     pub workers: u32,
 }
 
-/// What a worker did in a round: what a seat means to a contract. No value of it is made.
+/// What a worker did in a round: what a seat means to a contract. The code never makes a
+/// value of it.
 pub struct Record {
     /// The worker's number.
     pub worker: u32,

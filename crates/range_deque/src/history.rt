@@ -10,7 +10,8 @@ pub struct Look {
     pub word: u64,
 }
 
-/// What a worker did in a round, what it holds and what it has looked at. No value of it is made.
+/// What a worker did in a round, what it holds and what it has looked at. The code never makes a
+/// value of it.
 pub struct RangeRecord {
     /// What a seat means to a claimer.
     pub done: Record,
