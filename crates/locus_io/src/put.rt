@@ -10,7 +10,7 @@ use crate::outside::{Failed, Sink};
 ///
 /// # Errors
 /// `Failed` only if the sink counted a fault. Then a prefix of the bytes was written, possibly none or all of them.
-#[tactic(auto, using(crate::proofs::Fronts::appends_next, crate::proofs::Fronts::appends_none))]
+#[tactic(auto, using(crate::proofs::Prefixes::appends_next, crate::proofs::Prefixes::appends_none))]
 pub fn put_all<S: Sink>(sink: &mut S, bytes: &[u8]) -> Result<(), Failed>
     ensures ok { OnOk result (Appends (S.written sink.old) (S.written sink.new) bytes.now) }
     ensures flushed { OnOk result (IsTrue (S.is_flushed sink.new)) }
