@@ -15,25 +15,33 @@ use Rattle.decorated_tree.specs.Following.{GoOn, colour_bases}
 abbrev pub IsCounted : ℕ → List ℕ → List ℕ → ℕ → Type 0
 IsCounted base old letters place = IsCarriedTo (replicate (length old) base) old letters place
 
-pub counted_start : (base : ℕ) (old : List ℕ) → AreDigits (replicate (length old) base) old → IsCounted base old old (length old)
-counted_start base old h = carry_start (replicate (length old) base) old (length old) (sym (length-replicate (length old) base)) h
+pub counted_start : (base : ℕ) (old : List ℕ) → AreDigits (replicate (length old) base) old
+    → IsCounted base old old (length old)
+counted_start base old h =
+    carry_start (replicate (length old) base) old (length old) (sym (length-replicate (length old) base)) h
 
-pub counted_long : (base : ℕ) (old letters : List ℕ) (place : ℕ) → IsCounted base old letters place → length letters ≡ length old
-counted_long base old letters place s = length-digits (replicate (length old) base) letters s.digits ∙ length-replicate (length old) base
+pub counted_long : (base : ℕ) (old letters : List ℕ) (place : ℕ) → IsCounted base old letters place
+    → length letters ≡ length old
+counted_long base old letters place s =
+    length-digits (replicate (length old) base) letters s.digits ∙ length-replicate (length old) base
 
-pub letter_below : (base : ℕ) (old letters : List ℕ) (place i : ℕ) → i < length old → IsCounted base old letters place → get_or letters i 0 < base
+pub letter_below : (base : ℕ) (old letters : List ℕ) (place i : ℕ) → i < length old → IsCounted base old letters place
+    → get_or letters i 0 < base
 letter_below base old letters place i h s =
     let long = length-replicate (length old) base in
-    subst (λ z. get_or letters i 0 < z) (get_or-replicate (length old) i base 0 h) (digit_below (replicate (length old) base) letters i s.digits (omega arith))
+    subst (λ z. get_or letters i 0 < z) (get_or-replicate (length old) i base 0 h)
+    (digit_below (replicate (length old) base) letters i s.digits (omega arith))
 
-pub counted_on : (base : ℕ) (old letters : List ℕ) (place i : ℕ) → place ≡ i + 1 → i < length old → base ≤ get_or letters i 0 + 1 → IsCounted base old letters place
+pub counted_on : (base : ℕ) (old letters : List ℕ) (place i : ℕ) → place ≡ i + 1 → i < length old
+    → base ≤ get_or letters i 0 + 1 → IsCounted base old letters place
     → IsCounted base old (set letters i 0) i
 counted_on base old letters place i e h top s =
     let long = length-replicate (length old) base in
     let same = get_or-replicate (length old) i base 0 h in
     carry_step (replicate (length old) base) old letters place i e (omega arith) (omega arith) s
 
-pub counted_next : (base : ℕ) (old letters : List ℕ) (place i : ℕ) → place ≡ i + 1 → i < length old → get_or letters i 0 + 1 < base → IsCounted base old letters place
+pub counted_next : (base : ℕ) (old letters : List ℕ) (place i : ℕ) → place ≡ i + 1 → i < length old
+    → get_or letters i 0 + 1 < base → IsCounted base old letters place
     → GoOn (replicate (length old) base) old (set letters i (get_or letters i 0 + 1)) true
 counted_next base old letters place i e h less s =
     let long = length-replicate (length old) base in
@@ -46,7 +54,8 @@ joined-zeros [] (suc k) = refl
 joined-zeros (b ∷ bases) zero = refl
 joined-zeros (b ∷ bases) (suc k) = let e = joined-zeros bases k in omega arith
 
-pub counted_through : (base : ℕ) (old letters : List ℕ) (place : ℕ) → place ≡ 0 → AreDigits (replicate (length old) base) old → IsCounted base old letters place
+pub counted_through : (base : ℕ) (old letters : List ℕ) (place : ℕ) → place ≡ 0
+    → AreDigits (replicate (length old) base) old → IsCounted base old letters place
     → GoOn (replicate (length old) base) old letters false
 counted_through base old letters place e h s =
     let bases = replicate (length old) base in
@@ -63,12 +72,14 @@ product-append (a ∷ as') bs = times a (product_of as') (product_of bs) (produc
     times : (a p q r : ℕ) → r ≡ p * q → a * r ≡ a * p * q
     times a p q r e = omega (arith, ap (λ z. a * z) e)
 
-joined-append : (as' bs xs ys : List ℕ) → length as' ≡ length xs → joined (as' ++ bs) (xs ++ ys) ≡ joined as' xs * product_of bs + joined bs ys
+joined-append : (as' bs xs ys : List ℕ) → length as' ≡ length xs
+    → joined (as' ++ bs) (xs ++ ys) ≡ joined as' xs * product_of bs + joined bs ys
 joined-append [] bs [] ys e = omega arith
 joined-append [] bs (x ∷ xs) ys e = absurd (omega arith)
 joined-append (a ∷ as') bs [] ys e = absurd (omega arith)
 joined-append (a ∷ as') bs (x ∷ xs) ys e =
-    plus x (product_of (as' ++ bs)) (product_of as') (product_of bs) (joined as' xs) (joined bs ys) _ (product-append as' bs) (joined-append as' bs xs ys (omega arith))
+    plus x (product_of (as' ++ bs)) (product_of as') (product_of bs) (joined as' xs) (joined bs ys) _
+    (product-append as' bs) (joined-append as' bs xs ys (omega arith))
   where
     plus : (x r p q j k l : ℕ) → r ≡ p * q → l ≡ j * q + k → x * r + l ≡ (x * p + j) * q + k
     plus x r p q j k l e f = omega (arith, ap (λ z. x * z) e)
@@ -79,14 +90,16 @@ digits_join [] cs (x ∷ xs) ys h k = absurd h
 digits_join (b ∷ bs) cs [] ys h k = absurd h
 digits_join (b ∷ bs) cs (x ∷ xs) ys h k = (h.0, digits_join bs cs xs ys h.1 k)
 
-pub digits_part : (bs cs xs ys : List ℕ) → length bs ≡ length xs → AreDigits (bs ++ cs) (xs ++ ys) → AreDigits bs xs × AreDigits cs ys
+pub digits_part : (bs cs xs ys : List ℕ) → length bs ≡ length xs → AreDigits (bs ++ cs) (xs ++ ys)
+    → AreDigits bs xs × AreDigits cs ys
 digits_part [] cs [] ys e h = (tt, h)
 digits_part [] cs (x ∷ xs) ys e h = absurd (omega arith)
 digits_part (b ∷ bs) cs [] ys e h = absurd (omega arith)
 digits_part (b ∷ bs) cs (x ∷ xs) ys e h = let r = digits_part bs cs xs ys (omega arith) h.1 in ((h.0, r.0), r.1)
 
 -- the less significant digits go on, and the others stay
-pub go_on_after : (bs cs ps xs ys : List ℕ) → AreDigits bs ps → GoOn cs xs ys true → GoOn (bs ++ cs) (ps ++ xs) (ps ++ ys) true
+pub go_on_after : (bs cs ps xs ys : List ℕ) → AreDigits bs ps → GoOn cs xs ys true
+    → GoOn (bs ++ cs) (ps ++ xs) (ps ++ ys) true
 go_on_after bs cs ps xs ys h g =
     let long = sym (length-digits bs ps h) in
     let a = joined-append bs cs ps xs long in
@@ -95,7 +108,8 @@ go_on_after bs cs ps xs ys h g =
     (digits_join bs cs ps ys h g.0, omega arith)
 
 -- the less significant digits go back to zeros, and the others go on
-pub go_on_carry : (more : Bool) (bs cs ps qs xs ys : List ℕ) → AreDigits bs ps → GoOn bs ps qs more → GoOn cs xs ys false → GoOn (bs ++ cs) (ps ++ xs) (qs ++ ys) more
+pub go_on_carry : (more : Bool) (bs cs ps qs xs ys : List ℕ) → AreDigits bs ps → GoOn bs ps qs more
+    → GoOn cs xs ys false → GoOn (bs ++ cs) (ps ++ xs) (qs ++ ys) more
 go_on_carry true bs cs ps qs xs ys h g k =
     let a = joined-append bs cs ps xs (sym (length-digits bs ps h)) in
     let b = joined-append bs cs qs ys (sym (length-digits bs qs g.0)) in
@@ -118,7 +132,8 @@ go_on_carry false bs cs ps qs xs ys h g k =
     count w r j q p x e f g h = omega (arith, ap (λ z. z * p) g)
 
 -- ---- the digits of colours
-pub first_goes_on : (bases ps qs : List ℕ) (r first : ℕ) → first < r → GoOn bases ps qs false → GoOn ((r + 1) ∷ bases) (first ∷ ps) ((first + 1) ∷ qs) true
+pub first_goes_on : (bases ps qs : List ℕ) (r first : ℕ) → first < r → GoOn bases ps qs false
+    → GoOn ((r + 1) ∷ bases) (first ∷ ps) ((first + 1) ∷ qs) true
 first_goes_on bases ps qs r first h g =
     let z = g.1 in
     let p = g.2 in
@@ -127,7 +142,8 @@ first_goes_on bases ps qs r first h g =
     count : (f p x y : ℕ) → y ≡ 0 → x + 1 ≡ p → (f + 1) * p + y ≡ f * p + x + 1
     count f p x y e h = omega arith
 
-pub first_goes_back : (bases ps qs : List ℕ) (r first : ℕ) → first ≡ r → GoOn bases ps qs false → GoOn ((r + 1) ∷ bases) (first ∷ ps) (0 ∷ qs) false
+pub first_goes_back : (bases ps qs : List ℕ) (r first : ℕ) → first ≡ r → GoOn bases ps qs false
+    → GoOn ((r + 1) ∷ bases) (first ∷ ps) (0 ∷ qs) false
 first_goes_back bases ps qs r first h g =
     ((omega arith, g.0), (let z = g.1 in omega arith), count first r (product_of bases) (joined bases ps) h g.2)
   where

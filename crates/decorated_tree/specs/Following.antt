@@ -20,7 +20,8 @@ first_degrees k d = replicate (k - 1) 1 ++ (d - (k - 1)) ∷ []
 -- the list of degrees with the next rank, or after the last list the first one
 abbrev pub DegreesGoOn : ℕ → List ℕ → List ℕ → Bool → Type 0
 DegreesGoOn d old new true = AreDegrees (length old) d new × (binomial_rank new d ≡ binomial_rank old d + 1)
-DegreesGoOn d old new false = (new ≡ first_degrees (length old) d) × (binomial_rank old d + 1 ≡ choose (d - 1) (length old - 1))
+DegreesGoOn d old new false =
+    (new ≡ first_degrees (length old) d) × (binomial_rank old d + 1 ≡ choose (d - 1) (length old - 1))
 
 -- the bases of the digits of colours
 abbrev pub colour_bases : ℕ → ℕ → List ℕ

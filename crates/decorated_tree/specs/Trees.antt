@@ -28,7 +28,8 @@ is_tree_of s t = (t.m == s.marks) && is_padded t && is_decorated s (tree_view t)
 -- all that is asked of a tree of the shape but that its edges are a tree and their ends have different colours
 abbrev pub fits_shape : TreeShape → Tree → Bool
 fits_shape s t =
-    nat_le 2 t.n && nat_le t.n (s.degree + 1) && (t.m == s.marks) && is_padded t && list_all (λ c. nat_le c s.rank) (take t.n t.colours)
+    nat_le 2 t.n && nat_le t.n (s.degree + 1) && (t.m == s.marks) && is_padded t && list_all (λ c. nat_le c s.rank)
+    (take t.n t.colours)
     && list_all (λ a. nat_le 1 a) (take (t.n - 1) t.degrees) && (sum (take (t.n - 1) t.degrees) == s.degree)
     && list_all (λ v. nat_lt v t.n) (take t.m t.marks)
 

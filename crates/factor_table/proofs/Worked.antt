@@ -48,24 +48,29 @@ place_of_last = refl
 
 word_of_edge : IsWordOf 101 (fraction_of line (Edge 0 1 2)) 39
 unfolding line edge_top edge_bottom colour_product other_colours_product last_remainder
-word_of_edge = inl (38, record { below = lit< tt; unit = gcd_by_euclid _ _ 1 refl; divides = dvd_of_mod-eq-zero 101 refl }, refl)
+word_of_edge =
+    inl (38, record { below = lit< tt; unit = gcd_by_euclid _ _ 1 refl; divides = dvd_of_mod-eq-zero 101 refl }, refl)
 
 word_of_pair : IsWordOf 101 (fraction_of line (Pair 0 1 1 1 1)) 52
 unfolding line plain_vertex tangent_product last_remainder
-word_of_pair = inl (51, record { below = lit< tt; unit = gcd_by_euclid _ _ 1 refl; divides = dvd_of_mod-eq-zero 101 refl }, refl)
+word_of_pair =
+    inl (51, record { below = lit< tt; unit = gcd_by_euclid _ _ 1 refl; divides = dvd_of_mod-eq-zero 101 refl }, refl)
 
 word_of_class_edge : IsWordOf 101 (fraction_of line (ClassEdge 0 0 1 2)) 100
 unfolding line negated_inner_product last_remainder
-word_of_class_edge = inl (99, record { below = lit< tt; unit = gcd_by_euclid _ _ 1 refl; divides = dvd_of_mod-eq-zero 101 refl }, refl)
+word_of_class_edge =
+    inl (99, record { below = lit< tt; unit = gcd_by_euclid _ _ 1 refl; divides = dvd_of_mod-eq-zero 101 refl }, refl)
 
 -- the tangent at 0 is 1 - 3, and a tip there is (3 - 1) over its degree
 word_of_tangent : IsWordOf 101 (fraction_of line (Tangent 0)) 100
 unfolding line tangent_product last_remainder
-word_of_tangent = inl (99, record { below = lit< tt; unit = gcd_by_euclid _ _ 1 refl; divides = dvd_of_mod-eq-zero 101 refl }, refl)
+word_of_tangent =
+    inl (99, record { below = lit< tt; unit = gcd_by_euclid _ _ 1 refl; divides = dvd_of_mod-eq-zero 101 refl }, refl)
 
 word_of_tip : IsWordOf 101 (fraction_of line (Tip 0 1 2)) 2
 unfolding line last_remainder
-word_of_tip = inl (1, record { below = lit< tt; unit = gcd_by_euclid _ _ 1 refl; divides = dvd_of_mod-eq-zero 101 refl }, refl)
+word_of_tip =
+    inl (1, record { below = lit< tt; unit = gcd_by_euclid _ _ 1 refl; divides = dvd_of_mod-eq-zero 101 refl }, refl)
 
 -- ---- the weights 1 and 4: their difference is no unit modulo 9
 

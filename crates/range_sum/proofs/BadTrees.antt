@@ -47,7 +47,8 @@ lacks_at m f r h e = by (gcd (nat_abs f.bottom) m) (h.refused.0 e)
         cases true t = absurd (apart (eqb-true g 1 t))
         cases false t = refl
 
-pub is_lacking : (m : ℕ) (f : Fraction) (r : Result ℕ NoUnit) (b : Bool) → GivesResidue m f r → b ≡ is_err r → b ≡ lacks_residue m f
+pub is_lacking : (m : ℕ) (f : Fraction) (r : Result ℕ NoUnit) (b : Bool) → GivesResidue m f r → b ≡ is_err r
+    → b ≡ lacks_residue m f
 is_lacking m f (Ok x) b h e = e ∙ sym (has_residue m f x h.value)
 is_lacking m f (Err x) b h e = e ∙ sym (lacks_at m f (Err x) h refl)
 
@@ -55,10 +56,13 @@ is_lacking m f (Err x) b h e = e ∙ sym (lacks_at m f (Err x) h refl)
 pub bad_by_integral : (ws : List ℤ) (integrals : List (List Term)) (g : DecoratedTree) (m i : ℕ) → i < length integrals
     → lacks_residue m (contribution ws (get_or integrals i []) g) ≡ true → is_bad_for ws integrals g m ≡ true
 unfolding is_bad_for
-bad_by_integral ws integrals g m i within h = list_any_at (λ ts. lacks_residue m (contribution ws ts g)) integrals i [] within h
+bad_by_integral ws integrals g m i within h =
+    list_any_at (λ ts. lacks_residue m (contribution ws ts g)) integrals i [] within h
 
-pub good_by_integrals : (ws : List ℤ) (integrals : List (List Term)) (g : DecoratedTree) (m n : ℕ) → length integrals ≤ n
-    → ((i : ℕ) → i < n → lacks_residue m (contribution ws (get_or integrals i []) g) ≡ false) → is_bad_for ws integrals g m ≡ false
+pub good_by_integrals : (ws : List ℤ) (integrals : List (List Term)) (g : DecoratedTree) (m n : ℕ)
+    → length integrals ≤ n
+    → ((i : ℕ) → i < n → lacks_residue m (contribution ws (get_or integrals i []) g) ≡ false)
+    → is_bad_for ws integrals g m ≡ false
 unfolding is_bad_for
 good_by_integrals ws integrals g m n few h = cases (is_bad_for ws integrals g m) refl
   where
@@ -69,33 +73,43 @@ good_by_integrals ws integrals g m n few h = cases (is_bad_for ws integrals g m)
     some e =
         let a = Any-from_list_any (λ ts. lacks_residue m (contribution ws ts g)) integrals e in
         let within = a.2 in
-        clash (ap (λ ts. lacks_residue m (contribution ws ts g)) (sym (get_or_default integrals a.0 [] a.1 a.2 ∙ a.3)) ∙ h a.0 (omega arith)) a.4
+        clash
+        (ap (λ ts. lacks_residue m (contribution ws ts g)) (sym (get_or_default integrals a.0 [] a.1 a.2 ∙ a.3)) ∙ h a.0 (omega arith)) a.4
 
     cases : (b : Bool) → is_bad_for ws integrals g m ≡ b → is_bad_for ws integrals g m ≡ false
     cases true e = absurd (some e)
     cases false e = e
 
 -- ---- the trees that are bad for some modulus
-pub bad_by_modulus : (ws : List ℤ) (integrals : List (List Term)) (ms : List ℕ) (g : DecoratedTree) (j : ℕ) → j < length ms
+pub bad_by_modulus : (ws : List ℤ) (integrals : List (List Term)) (ms : List ℕ) (g : DecoratedTree) (j : ℕ)
+    → j < length ms
     → is_bad_for ws integrals g (slice_index ms j) ≡ true → list_any (is_bad_for ws integrals g) ms ≡ true
 bad_by_modulus ws integrals ms g j within h = list_any_at (is_bad_for ws integrals g) ms j 0 within h
 
-pub good_by_moduli : (ws : List ℤ) (integrals : List (List Term)) (ms : List ℕ) (g : DecoratedTree) (n : ℕ) → length ms ≤ n
-    → ((j : ℕ) → j < n → is_bad_for ws integrals g (slice_index ms j) ≢ true) → list_any (is_bad_for ws integrals g) ms ≢ true
+pub good_by_moduli : (ws : List ℤ) (integrals : List (List Term)) (ms : List ℕ) (g : DecoratedTree) (n : ℕ)
+    → length ms ≤ n
+    → ((j : ℕ) → j < n → is_bad_for ws integrals g (slice_index ms j) ≢ true)
+    → list_any (is_bad_for ws integrals g) ms ≢ true
 good_by_moduli ws integrals ms g n few h e =
     let a = Any-from_list_any (is_bad_for ws integrals g) ms e in
     let within = a.2 in
     h a.0 (omega arith) (ap (is_bad_for ws integrals g) (get_or_default ms a.0 0 a.1 a.2 ∙ a.3) ∙ a.4)
 
-pub bad_there : (ws : List ℤ) (integrals : List (List Term)) (ms : List ℕ) (g : DecoratedTree) (i j : ℕ) → i < length integrals → j < length ms
-    → lacks_residue (slice_index ms j) (contribution ws (get_or integrals i []) g) ≡ true → list_any (is_bad_for ws integrals g) ms ≡ true
-bad_there ws integrals ms g i j a b h = bad_by_modulus ws integrals ms g j b (bad_by_integral ws integrals g (slice_index ms j) i a h)
+pub bad_there : (ws : List ℤ) (integrals : List (List Term)) (ms : List ℕ) (g : DecoratedTree) (i j : ℕ)
+    → i < length integrals → j < length ms
+    → lacks_residue (slice_index ms j) (contribution ws (get_or integrals i []) g) ≡ true
+    → list_any (is_bad_for ws integrals g) ms ≡ true
+bad_there ws integrals ms g i j a b h =
+    bad_by_modulus ws integrals ms g j b (bad_by_integral ws integrals g (slice_index ms j) i a h)
 
-pub bad_at_place : (ws : List ℤ) (integrals : List (List Term)) (ms : List ℕ) (g : DecoratedTree) (place : ℕ) → 0 < length ms
-    → place < length integrals * length ms → lacks_residue (modulus_at ms place) (contribution ws (integral_at ms integrals place) g) ≡ true
+pub bad_at_place : (ws : List ℤ) (integrals : List (List Term)) (ms : List ℕ) (g : DecoratedTree) (place : ℕ)
+    → 0 < length ms
+    → place < length integrals * length ms
+    → lacks_residue (modulus_at ms place) (contribution ws (integral_at ms integrals place) g) ≡ true
     → list_any (is_bad_for ws integrals g) ms ≡ true
 bad_at_place ws integrals ms g place some within h =
-    bad_there ws integrals ms g (place / length ms) (place % length ms) (div_below place (length ms) (length integrals) some within) (mod-lt place some) h
+    bad_there ws integrals ms g (place / length ms) (place % length ms)
+    (div_below place (length ms) (length integrals) some within) (mod-lt place some) h
 
 pub nowhere_bad : (ws : List ℤ) (integrals : List (List Term)) (ms : List ℕ) (g : DecoratedTree)
     → ((place : ℕ) → place < length integrals * length ms → lacks_residue (modulus_at ms place) (contribution ws (integral_at ms integrals place) g) ≡ false)
@@ -110,13 +124,18 @@ nowhere_bad ws integrals ms g h =
     clash : {b : Bool} → b ≡ false → b ≡ true → ⊥
     clash p q = cc
 
-    at_parts : (i j : ℕ) → i < length integrals → j < n → lacks_residue (slice_index ms j) (contribution ws (get_or integrals i []) g) ≡ false
+    at_parts : (i j : ℕ) → i < length integrals → j < n
+        → lacks_residue (slice_index ms j) (contribution ws (get_or integrals i []) g) ≡ false
     at_parts i j a b =
-        let within : i * n + j < length integrals * n = subst (λ q. i * n + j < q) (mul_comm n (length integrals)) (mul-add-lt i n j (length integrals) a b) in
-        sym (ap₂ (λ u v. lacks_residue (slice_index ms u) (contribution ws (get_or integrals v []) g)) (mod-mul-add i n j b) (div-mul-add i n j b)) ∙ h (i * n + j) within
+        let within : i * n + j < length integrals * n =
+        subst (λ q. i * n + j < q) (mul_comm n (length integrals)) (mul-add-lt i n j (length integrals) a b) in
+        sym
+        (ap₂ (λ u v. lacks_residue (slice_index ms u) (contribution ws (get_or integrals v []) g)) (mod-mul-add i n j b) (div-mul-add i n j b))
+        ∙ h (i * n + j) within
 
 -- the number of a bad tree is bad
-pub is_bad_at : (ws : List ℤ) (integrals : List (List Term)) (ms : List ℕ) (s : TreeShape) (k : ℕ) (g : DecoratedTree) → g ≡ tree_of s k
+pub is_bad_at : (ws : List ℤ) (integrals : List (List Term)) (ms : List ℕ) (s : TreeShape) (k : ℕ) (g : DecoratedTree)
+    → g ≡ tree_of s k
     → list_any (is_bad_for ws integrals g) ms ≡ is_bad_number ws integrals ms s k
 unfolding is_bad_number
 is_bad_at ws integrals ms s k g e = ap (λ h. list_any (is_bad_for ws integrals h) ms) e

@@ -9,16 +9,22 @@ loop-place-init c = ones_start c.args.degrees.now c.requires.some
 
 pub overflow_add-degrees : goal.overflow_add-degrees
 overflow_add-degrees c =
-    let small = degree_small c.loop-place.place (c.loop-place.place - 1 - 1) c.args.degrees.now c.loop-place.degrees (omega arith) c.requires.small c.loop-place.invariant in
+    let small =
+    degree_small c.loop-place.place (c.loop-place.place - 1 - 1) c.args.degrees.now c.loop-place.degrees
+    (omega arith) c.requires.small c.loop-place.invariant in
     omega arith
 
 pub returns-then-degree-gt1 : goal.returns-then-degree-gt1
 returns-then-degree-gt1 c =
-    goes_up c.loop-place.place (c.loop-place.place - 1) c.args.degrees.now c.loop-place.degrees c.requires.positive (omega arith) (omega arith) (omega arith) c.if-degree-gt1.true c.loop-place.invariant
+    goes_up c.loop-place.place (c.loop-place.place - 1) c.args.degrees.now c.loop-place.degrees c.requires.positive
+    (omega arith) (omega arith) (omega arith) c.if-degree-gt1.true c.loop-place.invariant
 
 pub loop-place-preserved : goal.loop-place-preserved
 loop-place-preserved c =
-    ones_more c.loop-place.place (c.loop-place.place - 1) c.args.degrees.now c.loop-place.degrees c.requires.positive (omega arith) (omega arith) (omega arith) c.if-degree-gt1.false c.loop-place.invariant
+    ones_more c.loop-place.place (c.loop-place.place - 1) c.args.degrees.now c.loop-place.degrees c.requires.positive
+    (omega arith) (omega arith) (omega arith) c.if-degree-gt1.false c.loop-place.invariant
 
 pub returns : goal.returns
-returns c = goes_back c.loop-place.place c.args.degrees.now c.loop-place.degrees c.requires.positive (omega arith) c.requires.some c.loop-place.invariant
+returns c =
+    goes_back c.loop-place.place c.args.degrees.now c.loop-place.degrees c.requires.positive
+    (omega arith) c.requires.some c.loop-place.invariant

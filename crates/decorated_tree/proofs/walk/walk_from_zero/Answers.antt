@@ -23,18 +23,26 @@ loop-edge-preserved c =
 
 pub returns-clause-within : goal.returns-clause-within
 returns-clause-within c =
-    let done = walked c.args.n c.args.edges.now (c.args.n - c.loop.counter) c.loop.walk c.loop.there (omega arith) c.loop.invariant in
-    subst (AreWithin c.args.n) (sym done) (walk_of_tree c.args.n c.args.edges.now c.requires.most c.requires.tree).within
+    let done =
+    walked c.args.n c.args.edges.now (c.args.n - c.loop.counter) c.loop.walk c.loop.there
+    (omega arith) c.loop.invariant in
+    subst (AreWithin c.args.n) (sym done)
+    (walk_of_tree c.args.n c.args.edges.now c.requires.most c.requires.tree).within
 
 pub returns-then-as_slice-n-clause-value : goal.returns-then-as_slice-n-clause-value
 returns-then-as_slice-n-clause-value c =
     let long = ap length c.as_slice.ensures in
     let all = c.if-as_slice-n.true in
-    walked_all c.args.n c.args.edges.now (c.args.n - c.loop.counter) c.loop.walk c.loop.there c.requires.most c.requires.tree (omega arith) c.loop.invariant
+    walked_all c.args.n c.args.edges.now
+    (c.args.n - c.loop.counter) c.loop.walk c.loop.there c.requires.most c.requires.tree (omega arith) c.loop.invariant
 
 pub returns-then-as_slice-n-clause-within : goal.returns-then-as_slice-n-clause-within
 returns-then-as_slice-n-clause-within c =
     let long = ap length c.as_slice.ensures in
     let all = c.if-as_slice-n.true in
-    let done = walked_all c.args.n c.args.edges.now (c.args.n - c.loop.counter) c.loop.walk c.loop.there c.requires.most c.requires.tree (omega arith) c.loop.invariant in
-    subst (AreWithin c.args.n) (sym done) (walk_of_tree c.args.n c.args.edges.now c.requires.most c.requires.tree).within
+    let done =
+    walked_all c.args.n c.args.edges.now
+    (c.args.n - c.loop.counter) c.loop.walk c.loop.there c.requires.most c.requires.tree
+    (omega arith) c.loop.invariant in
+    subst (AreWithin c.args.n) (sym done)
+    (walk_of_tree c.args.n c.args.edges.now c.requires.most c.requires.tree).within

@@ -6,5 +6,6 @@ pub loop-index-preserved : goal.loop-index-preserved
 loop-index-preserved c =
     let moduli = c.args.moduli.now in let i = c.loop-index.index in let inv = c.loop-index.invariant in record {
       copied = item_copied moduli _ _ i c.get.result.now c.modulus_like.result c.get.ensures c.modulus_like.ensures.copied inv.copied c.in_ok-push.ensures.items;
-      limited = below_more _ _ inv.limited (item_limited moduli i c.get.result.now c.modulus_like.result c.get.ensures c.modulus_like.ensures.copied c.modulus_like.ensures.limited);
+      limited = below_more _ _ inv.limited
+          (item_limited moduli i c.get.result.now c.modulus_like.result c.get.ensures c.modulus_like.ensures.copied c.modulus_like.ensures.limited);
     }

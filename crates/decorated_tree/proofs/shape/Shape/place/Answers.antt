@@ -26,9 +26,11 @@ returns-then-rest-count-clause-tree c =
 
 pub overflow_add-n : goal.overflow_add-n
 overflow_add-n c =
-    let l = limits c.args.self.now.rank c.args.self.now.degree c.args.self.now.marks c.counts-count-items.ensures.shape in
+    let l =
+    limits c.args.self.now.rank c.args.self.now.degree c.args.self.now.marks c.counts-count-items.ensures.shape in
     let most = l.most_degree in
-    let short = place_short c.args.self.now c.args.k c.loop-count.count-index c.loop-count.n c.loop-count.rest c.loop-count.invariant in
+    let short =
+    place_short c.args.self.now c.args.k c.loop-count.count-index c.loop-count.n c.loop-count.rest c.loop-count.invariant in
     omega arith
 
 pub loop-count-preserved : goal.loop-count-preserved
