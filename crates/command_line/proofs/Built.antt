@@ -44,13 +44,17 @@ built_words words r a = by_rule a.rule a.items (only_rule a.rule a.known) a.is_u
     named [] e n = refl
     named (o ∷ options) e n = cc
 
-    alone : (name : Text) (os : Options) → os (codes "workers") ≡ None → os (codes "budget") ≡ None → os (codes "stop-file") ≡ None → run_asked (name ∷ []) os ≡ Some (sum_alone name)
+    alone : (name : Text) (os : Options) → os (codes "workers") ≡ None → os (codes "budget") ≡ None
+        → os (codes "stop-file") ≡ None → run_asked (name ∷ []) os ≡ Some (sum_alone name)
     alone name os w b s = rw (w, b, s) refl
 
-    by_use : (items : List Item) → IsUse (table_of_commands commands.Built) words run_alone.usage items → run_asked (plains_in items) (values_of items) ≡ Some r
+    by_use : (items : List Item) → IsUse (table_of_commands commands.Built) words run_alone.usage items
+        → run_asked (plains_in items) (values_of items) ≡ Some r
         → (first name : Text) × (words ≡ first ∷ codes "run" ∷ name ∷ []) × (is_plain name ≡ true) × (r ≡ sum_alone name)
     by_use items h asked =
-        let (plains, options) = both (are_plains run_alone.usage (plains_in items)) (are_options run_alone.usage (options_in items)) h.allowed in
+        let (plains, options) =
+            both (are_plains run_alone.usage (plains_in items))
+            (are_options run_alone.usage (options_in items)) h.allowed in
         let fit = (both (list_all (option_fits []) (options_in items)) _ options).0 in
         let (same, none, all) = only_plains h.rest items h.says fit in
         let (name, is, any) = one_word file (plains_in items) plains in
@@ -66,7 +70,9 @@ built_words words r a = by_rule a.rule a.items (only_rule a.rule a.known) a.is_u
           same_Some r (sum_alone name) (sym asked ∙ request),
         )
 
-    by_rule : (rule : CommandRule) (items : List Item) → run_alone ≡ rule → IsUse (table_of_commands commands.Built) words rule.usage items → rule.asked (plains_in items) (values_of items) ≡ Some r
+    by_rule : (rule : CommandRule) (items : List Item) → run_alone ≡ rule
+        → IsUse (table_of_commands commands.Built) words rule.usage items
+        → rule.asked (plains_in items) (values_of items) ≡ Some r
         → (first name : Text) × (words ≡ first ∷ codes "run" ∷ name ∷ []) × (is_plain name ≡ true) × (r ≡ sum_alone name)
     by_rule rule items is h asked =
         by_use items
@@ -74,7 +80,8 @@ built_words words r a = by_rule a.rule a.items (only_rule a.rule a.known) a.is_u
         (subst (λ (x : CommandRule). x.asked (plains_in items) (values_of items) ≡ Some r) (sym is) asked)
 
 -- and such arguments ask for the sum of the file
-pub built_asks : (first name : Text) → is_plain name ≡ true → Asks commands.Built (first ∷ codes "run" ∷ name ∷ []) (sum_alone name)
+pub built_asks : (first name : Text) → is_plain name ≡ true
+    → Asks commands.Built (first ∷ codes "run" ∷ name ∷ []) (sum_alone name)
 built_asks first name e = record {
   rule = run_alone;
   items = plain name ∷ [];

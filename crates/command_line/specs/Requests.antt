@@ -106,7 +106,8 @@ unrank_asked _ options = None
 
 abbrev pub split_asked : List Text → Options → Option Request
 split_asked (file ∷ k ∷ i ∷ []) options =
-    option_and_then (λ parts. option_map (λ part. split file parts part (workers_in options)) (number_in i)) (number_in k)
+    option_and_then (λ parts. option_map (λ part. split file parts part (workers_in options)) (number_in i))
+    (number_in k)
 split_asked _ options = None
 
 abbrev pub merge_asked : List Text → Options → Option Request

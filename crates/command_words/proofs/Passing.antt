@@ -21,7 +21,8 @@ use Rattle.command_words.proofs.Bools.{and_false}
 
 -- a command with these arguments, as it is built below the one that has the table
 abbrev pub leaf : Text → List Arg → Shape
-leaf name args = record (new_shape name) { rules = map rule_at args; disable_help_flag = true; disable_help_subcommand = true; is_built = true }
+leaf name args =
+    record (new_shape name) { rules = map rule_at args; disable_help_flag = true; disable_help_subcommand = true; is_built = true }
 
 -- ---- which arguments words mean, and what the items do to what was given
 
@@ -57,11 +58,14 @@ given_after args (option name v ∷ is) given i = given_after args is (put (by_l
 
 -- ---- small facts
 
-pub from_more : (x : Item) (items : Items) (is : List Item) (P : List Item → Type 0) → more x items ≡ Some is → ((js : List Item) → items ≡ Some js → P (x ∷ js)) → P is
+pub from_more : (x : Item) (items : Items) (is : List Item) (P : List Item → Type 0) → more x items ≡ Some is
+    → ((js : List Item) → items ≡ Some js → P (x ∷ js)) → P is
 from_more x None is P e h = cc
 from_more x (Some js) is P e h = subst P (same_Some (x ∷ js) is e) (h js refl)
 
-pub from_rest : (name : Text) (rest : Rest) (is : List Item) (P : List Item → Type 0) → option_map (λ r. option name r.0 ∷ r.1) rest ≡ Some is → ((r : Text × List Item) → rest ≡ Some r → P (option name r.0 ∷ r.1)) → P is
+pub from_rest : (name : Text) (rest : Rest) (is : List Item) (P : List Item → Type 0)
+    → option_map (λ r. option name r.0 ∷ r.1) rest ≡ Some is
+    → ((r : Text × List Item) → rest ≡ Some r → P (option name r.0 ∷ r.1)) → P is
 from_rest name None is P e h = cc
 from_rest name (Some r) is P e h = subst P (same_Some (option name r.0 ∷ r.1) is e) (h r refl)
 
@@ -99,12 +103,14 @@ use_none None x given = refl
 use_none (Some a) x given = and_false _
 
 pub plain_more : (args : List Arg) (w : Text) (items : Items) (given : Given) (i : ℕ)
-    → all_items (λ is. take_items args is given i) (more (plain w) items) ≡ then_use (by_place args i) w given (λ g. all_items (λ is. take_items args is g (place_after i)) items)
+    → all_items (λ is. take_items args is given i) (more (plain w) items)
+        ≡ then_use (by_place args i) w given (λ g. all_items (λ is. take_items args is g (place_after i)) items)
 plain_more args w None given i = sym (use_none (by_place args i) w given)
 plain_more args w (Some is) given i = refl
 
 pub option_more : (args : List Arg) (name v : Text) (items : Items) (given : Given) (i : ℕ)
-    → all_items (λ is. take_items args is given i) (more (option name v) items) ≡ then_use (by_long args name) v given (λ g. all_items (λ is. take_items args is g i) items)
+    → all_items (λ is. take_items args is given i) (more (option name v) items)
+        ≡ then_use (by_long args name) v given (λ g. all_items (λ is. take_items args is g i) items)
 option_more args name v None given i = sym (use_none (by_long args name) v given)
 option_more args name v (Some is) given i = refl
 
@@ -113,12 +119,14 @@ abbrev pub value_next : List Arg → Option Arg → Given → ℕ → Rest → B
 value_next args o given i rest = option_map_or (λ r. then_use o r.0 given (λ g. take_items args r.1 g i)) rest false
 
 pub rest_more : (args : List Arg) (name : Text) (rest : Rest) (given : Given) (i : ℕ)
-    → all_items (λ is. take_items args is given i) (option_map (λ r. option name r.0 ∷ r.1) rest) ≡ value_next args (by_long args name) given i rest
+    → all_items (λ is. take_items args is given i) (option_map (λ r. option name r.0 ∷ r.1) rest)
+        ≡ value_next args (by_long args name) given i rest
 rest_more args name None given i = refl
 rest_more args name (Some r) given i = refl
 
 pub value_here : (args : List Arg) (o : Option Arg) (w : Text) (items : Items) (given : Given) (i : ℕ)
-    → value_next args o given i (option_map (λ is. (w, is)) items) ≡ then_use o w given (λ g. all_items (λ is. take_items args is g i) items)
+    → value_next args o given i (option_map (λ is. (w, is)) items)
+        ≡ then_use o w given (λ g. all_items (λ is. take_items args is g i) items)
 value_here args o w None given i = sym (use_none o w given)
 value_here args o w (Some is) given i = refl
 

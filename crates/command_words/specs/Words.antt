@@ -78,7 +78,8 @@ value_named name values = option_map (λ g. g.1) (find (λ g. bytes_eq g.0 name)
 
 -- the number that the text is, as Rust reads a u64
 abbrev pub number_in : Text → Option ℕ
-number_in value = if is_unsigned_in 0 18446744073709551615 value then Some (digits_value 10 (without_leading_plus value))
+number_in value =
+    if is_unsigned_in 0 18446744073709551615 value then Some (digits_value 10 (without_leading_plus value))
     else None
 
 -- ---- arguments that are refused before they are read as items
