@@ -35,7 +35,7 @@ given_asks c words g (u, items, h, holds) =
     let (rule, known, is) = rule_there (rules_of c) u h.row in
     let (some, found) = answered c rule known in
     let fit : are_plains rule.usage (plains_in items) ≡ true =
-        ap (λ v. are_plains v (plains_in items)) is ∙ first (are_plains u (plains_in items)) _ h.allowed in
+    ap (λ v. are_plains v (plains_in items)) is ∙ first (are_plains u (plains_in items)) _ h.allowed in
     let (request, asked) = some (plains_in items) (values_of items) fit in
     let options : options_of g ≡ values_of items = λ i name. holds.options name i in
     let named : g.command.now ≡ rule.usage.name = holds.command ∙ ap (λ (v : Usage). v.name) (sym is) in (

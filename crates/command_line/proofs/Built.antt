@@ -53,8 +53,8 @@ built_words words r a = by_rule a.rule a.items (only_rule a.rule a.known) a.is_u
         → (first name : Text) × (words ≡ first ∷ codes "run" ∷ name ∷ []) × (is_plain name ≡ true) × (r ≡ sum_alone name)
     by_use items h asked =
         let (plains, options) =
-            both (are_plains run_alone.usage (plains_in items))
-            (are_options run_alone.usage (options_in items)) h.allowed in
+        both (are_plains run_alone.usage (plains_in items))
+        (are_options run_alone.usage (options_in items)) h.allowed in
         let fit = (both (list_all (option_fits []) (options_in items)) _ options).0 in
         let (same, none, all) = only_plains h.rest items h.says fit in
         let (name, is, any) = one_word file (plains_in items) plains in

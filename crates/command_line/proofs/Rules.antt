@@ -89,8 +89,8 @@ soak_some ws os e =
 trees_some : AsksSome table.trees
 trees_some ws os e =
     let (a, b, c, is, named, low, high) =
-        three_words table.file (table.number (codes "LO") 0 1099511627776)
-        (table.number (codes "HI") 0 1099511627776) ws e in
+    three_words table.file (table.number (codes "LO") 0 1099511627776)
+    (table.number (codes "HI") 0 1099511627776) ws e in
     let (n, first, least, most) = number_within 0 1099511627776 b low in
     let (m, last, lower, upper) = number_within 0 1099511627776 c high in
     rw (is, first, last) (_, refl)
@@ -108,7 +108,7 @@ unrank_some ws os e =
 split_some : AsksSome table.split
 split_some ws os e =
     let (a, b, c, is, named, parts, part) =
-        three_words table.file (table.number (codes "K") 1 64) (table.number (codes "I") 0 63) ws e in
+    three_words table.file (table.number (codes "K") 1 64) (table.number (codes "I") 0 63) ws e in
     let (n, first, least, most) = number_within 1 64 b parts in
     let (m, last, lower, upper) = number_within 0 63 c part in
     rw (is, first, last) (_, refl)

@@ -63,7 +63,7 @@ options_built place (s ∷ slots) = ap (λ rs. rule_at (option_arg s) ∷ rs) (o
 
 plains_built : (least i place : ℕ) (slots options : List Slot)
     → filled_from place (plain_rules least i slots ++ map option_rule options)
-        ≡ map rule_at (plain_args least i place slots ++ map option_arg options)
+    ≡ map rule_at (plain_args least i place slots ++ map option_arg options)
 plains_built least i place [] options = options_built place options
 plains_built least i place (s ∷ slots) options =
     ap (λ rs. rule_at (plain_arg (nat_lt i least) place s) ∷ rs)
@@ -137,5 +137,5 @@ found_named q (x ∷ xs) a different e =
     step true false d o none is different e rest = let same = same_Some x a e in rw (← same, same_text x.id) refl
     step false false d o none is different e rest =
         let other : bytes_eq x.id a.id ≡ false =
-            flipped x.id a.id ∙ found_fails q (λ b. bytes_eq b.id x.id) xs a (sym (among_ids x.id xs) ∙ none) (is ∙ e) in
+        flipped x.id a.id ∙ found_fails q (λ b. bytes_eq b.id x.id) xs a (sym (among_ids x.id xs) ∙ none) (is ∙ e) in
         rw other (rest different e)

@@ -138,7 +138,7 @@ use_found : (table : List Usage) (words : List Text) → NamesDiffer table → A
     → is_words table words ≡ true
 use_found table words differ (u, items, h) =
     let whole : is_words table (h.first ∷ u.name ∷ h.rest) ≡ true =
-        rw (row_named table u differ h.row, said h.rest items h.says, h.allowed) refl in
+    rw (row_named table u differ h.row, said h.rest items h.says, h.allowed) refl in
     ap (is_words table) h.split ∙ whole
 
 -- words that are accepted pass the first look
@@ -146,7 +146,7 @@ pub taken_passes : (table : List Usage) (words : List Text) → is_sound_table t
     → ArePassed words
 taken_passes table words sound (u, items, h) =
     let named : is_refused_first u.name ≡ false =
-        plain_passes u.name (name_plain table u (sound_names table sound).0 h.row) in
+    plain_passes u.name (name_plain table u (sound_names table sound).0 h.row) in
     let whole : list_any is_refused_first (u.name ∷ h.rest) ≡ false = rw named (passes_first h.rest items h.says) in
     ap (λ ws. list_any is_refused_first (drop 1 ws)) h.split ∙ whole
 
@@ -206,8 +206,8 @@ pub found_use : (program : Text) (table : List Usage) (words : List (String Glob
 found_use program table words m sound passes none found =
     let are = text_words words passes in
     let taken =
-        find_use table (map string_bytes words) (passed words ∙ passes)
-        (sym (law program table (map string_bytes words) (sound_rows table sound) are) ∙ ap empty none) in
+    find_use table (map string_bytes words) (passed words ∙ passes)
+    (sym (law program table (map string_bytes words) (sound_rows table sound) are) ∙ ap empty none) in
     (taken.0, taken.1, taken.2, (found (simple program table)).1 ∙ use_rows program table (map string_bytes words) taken.0 taken.1 sound are taken.2)
 
 -- what the matches of a use give is what its items give
@@ -229,7 +229,7 @@ pub given_use : (program : Text) (table : List Usage) (words : List (String Glob
 given_use program table words m g sound passes none found gives =
     let (u, items, h, rows) = found_use program table words m sound passes none found in
     let (given, is, has) =
-        gives u (rows_for (values_in u.plains items)) (row_named table u (sound_names table sound).1 h.row) rows in
+    gives u (rows_for (values_in u.plains items)) (row_named table u (sound_names table sound).1 h.row) rows in
     (given, is, (u, items, h, holds given u items (row_sound table u (sound_rows table sound) h.row) h.allowed has))
 
 some_fault : (k : Kinds) → k ≢ [] → empty k ≡ false

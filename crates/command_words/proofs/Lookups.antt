@@ -142,8 +142,8 @@ lacks_slots least i place [] options given new le =
     rw (lacks_options options given) (sym (le-leb least i (omega arith)))
 lacks_slots least i place (s ∷ slots) options given new le =
     let tail =
-        lacks_slots least (i + 1) (place_after place) slots options given (λ t e. new t (more_among s slots t e))
-        (omega arith) in
+    lacks_slots least (i + 1) (place_after place) slots options given (λ t e. new t (more_among s slots t e))
+    (omega arith) in
     rw (new s.name (first_among s slots)) (lacks_test least i _ tail)
 
 lacks_more : (b d : Bool) → ((b && false) || d) ≡ d

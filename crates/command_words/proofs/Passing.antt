@@ -104,13 +104,13 @@ use_none (Some a) x given = and_false _
 
 pub plain_more : (args : List Arg) (w : Text) (items : Items) (given : Given) (i : ℕ)
     → all_items (λ is. take_items args is given i) (more (plain w) items)
-        ≡ then_use (by_place args i) w given (λ g. all_items (λ is. take_items args is g (place_after i)) items)
+    ≡ then_use (by_place args i) w given (λ g. all_items (λ is. take_items args is g (place_after i)) items)
 plain_more args w None given i = sym (use_none (by_place args i) w given)
 plain_more args w (Some is) given i = refl
 
 pub option_more : (args : List Arg) (name v : Text) (items : Items) (given : Given) (i : ℕ)
     → all_items (λ is. take_items args is given i) (more (option name v) items)
-        ≡ then_use (by_long args name) v given (λ g. all_items (λ is. take_items args is g i) items)
+    ≡ then_use (by_long args name) v given (λ g. all_items (λ is. take_items args is g i) items)
 option_more args name v None given i = sym (use_none (by_long args name) v given)
 option_more args name v (Some is) given i = refl
 
@@ -120,13 +120,13 @@ value_next args o given i rest = option_map_or (λ r. then_use o r.0 given (λ g
 
 pub rest_more : (args : List Arg) (name : Text) (rest : Rest) (given : Given) (i : ℕ)
     → all_items (λ is. take_items args is given i) (option_map (λ r. option name r.0 ∷ r.1) rest)
-        ≡ value_next args (by_long args name) given i rest
+    ≡ value_next args (by_long args name) given i rest
 rest_more args name None given i = refl
 rest_more args name (Some r) given i = refl
 
 pub value_here : (args : List Arg) (o : Option Arg) (w : Text) (items : Items) (given : Given) (i : ℕ)
     → value_next args o given i (option_map (λ is. (w, is)) items)
-        ≡ then_use o w given (λ g. all_items (λ is. take_items args is g i) items)
+    ≡ then_use o w given (λ g. all_items (λ is. take_items args is g i) items)
 value_here args o w None given i = sym (use_none o w given)
 value_here args o w (Some is) given i = refl
 

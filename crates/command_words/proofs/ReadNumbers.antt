@@ -11,7 +11,7 @@ pub number_read : {E : Type 0} (t : List ℕ) (r : Result ℕ E) → ParsesUnsig
 number_read t (Ok v) parsed =
     let few : digits_value 10 (without_leading_plus t) ≤ 18446744073709551615 = omega (arith, parsed.0.1) in
     let passes : is_unsigned_in 0 18446744073709551615 t ≡ true =
-        Accepts-accepts false (vp.Unsigned 0 18446744073709551615) t (parsed.0.0, parsed.0.1, omega arith, few) in
+    Accepts-accepts false (vp.Unsigned 0 18446744073709551615) t (parsed.0.0, parsed.0.1, omega arith, few) in
     rw (passes, parsed.1) refl
 number_read t (Err e) parsed = by_test (is_unsigned_in 0 18446744073709551615 t) refl
   where

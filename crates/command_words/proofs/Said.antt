@@ -104,11 +104,11 @@ alone_word w name e = by_cut (dashes w (name, None) e)
         go : Cut rest → (w ≡ codes "--" ++ name) × (is_name name ≡ true) × (0 < length name)
         go (inl none) =
             let here : rest ≡ name =
-                ap (λ (p : Text × Option Text). p.0) (sym (name_and_value-without rest (lacks_byte rest none)) ∙ is) in
+            ap (λ (p : Text × Option Text). p.0) (sym (name_and_value-without rest (lacks_byte rest none)) ∙ is) in
             (same ∙ ap (λ t. 45 ∷ 45 ∷ t) here, rw (← here, none) refl, rw (← here) some)
         go (inr (xs, ys, split, none)) =
             let both : (xs, Some ys) ≡ (name, None) =
-                sym (name_and_value-at xs ys (lacks_byte xs none)) ∙ ap name_and_value (sym split) ∙ is in
+            sym (name_and_value-at xs ys (lacks_byte xs none)) ∙ ap name_and_value (sym split) ∙ is in
             let wrong : Some ys ≡ None = ap (λ (p : Text × Option Text). p.1) both in
             cc
 
@@ -139,12 +139,12 @@ attached_word w name value e good = by_cut (dashes w (name, Some value) e)
         go : Cut rest → (w ≡ codes "--" ++ name ++ 61 ∷ value) × (is_name name ≡ true) × (0 < length value)
         go (inl none) =
             let both : (rest, None) ≡ (name, Some value) =
-                sym (name_and_value-without rest (lacks_byte rest none)) ∙ is in
+            sym (name_and_value-without rest (lacks_byte rest none)) ∙ is in
             let wrong : None ≡ Some value = ap (λ (p : Text × Option Text). p.1) both in
             cc
         go (inr (xs, ys, split, none)) =
             let both : (xs, Some ys) ≡ (name, Some value) =
-                sym (name_and_value-at xs ys (lacks_byte xs none)) ∙ ap name_and_value (sym split) ∙ is in
+            sym (name_and_value-at xs ys (lacks_byte xs none)) ∙ ap name_and_value (sym split) ∙ is in
             let here : xs ≡ name = ap (λ (p : Text × Option Text). p.0) both in
             let there : ys ≡ value = same_Some ys value (ap (λ (p : Text × Option Text). p.1) both) in
             let whole : w ≡ codes "--" ++ xs ++ 61 ∷ ys = same ∙ ap (λ t. 45 ∷ 45 ∷ t) split in

@@ -124,7 +124,7 @@ command_fault : (program : Text) (table : List Usage) (u : Usage) (word : Text) 
     → built_fault (whole program table) nothing_held (word ∷ ws) ≡ level_fault (leaf_for u) [] nothing_held ws false []
 command_fault program table u word ws e =
     let is_met : subcommand_met (names_for table) idle word ≡ Some u.name =
-        met table word ∙ ap (option_map (λ u. u.name)) e in
+    met table word ∙ ap (option_map (λ u. u.name)) e in
     let found : usage_named table u.name ≡ Some u = ap (usage_named table) (name_is table word u e) ∙ e in
     rw (names_built program table)
     (above program table (names_for table) u (walk [] (names_for table) nothing_held (word ∷ ws)) ws _ (walk_command (names_for table) word u.name ws is_met) (faults_command program (names_for table) word u.name ws is_met) found)
@@ -212,10 +212,10 @@ entered_leaf program table u ws stop e found = rw (e, leaf_found table u.name, f
 entered_use : (program : Text) (table : List Usage) (u : Usage) (word : Text) (ws : List Text)
     → usage_named table word ≡ Some u
     → entered (whole program table) (walk [] (names_of (whole program table)) nothing_held (word ∷ ws)).stopped
-        ≡ Some (u.name, rows_after (leaf_for u).rules [] ws)
+    ≡ Some (u.name, rows_after (leaf_for u).rules [] ws)
 entered_use program table u word ws e =
     let is_met : subcommand_met (names_for table) idle word ≡ Some u.name =
-        met table word ∙ ap (option_map (λ u. u.name)) e in
+    met table word ∙ ap (option_map (λ u. u.name)) e in
     let found : usage_named table u.name ≡ Some u = ap (usage_named table) (name_is table word u e) ∙ e in
     rw (names_built program table) (entered_leaf program table u ws _ (ap (λ (w : Walk). w.stopped) (walk_command (names_for table) word u.name ws is_met)) found)
 

@@ -228,7 +228,7 @@ module _ (u : Usage) (diff : different (names_of u.plains ++ names_of u.options)
       → (is_among name (names_of u.options) ≡ true → has_name name given ≡ false → has_name name read ≡ false
       → take_items (args_for u) items (given ++ (name, v) ∷ []) i ≡ use_of before slots (read ++ (name, v) ∷ []) items)
       → then_use (option_map option_arg o) v given (λ g. take_items (args_for u) items g i)
-          ≡ use_of before slots read (option name v ∷ items)
+      ≡ use_of before slots read (option name v ∷ items)
   option_used name v items before slots read given i st None e rest =
       rw e (option_none _ (list_all (option_fits u.options) (options_in items)) (different (names_in read ++ name ∷ names_in (options_in items))))
   option_used name v items before slots read given i st (Some s) e rest =
@@ -251,13 +251,13 @@ module _ (u : Usage) (diff : different (names_of u.plains ++ names_of u.options)
   are_used (plain w ∷ items) before [] read given i st = rw (place_here before [] read given i st) (plain_none _ _)
   are_used (plain w ∷ items) before (s ∷ slots) read given i st =
       let new : has_name s.name given ≡ false =
-          slots_new before (s ∷ slots) read given i st s.name (first_among s slots) in
+      slots_new before (s ∷ slots) read given i st s.name (first_among s slots) in
       let rest =
-          are_used items (before ++ s ∷ []) slots read (given ++ (s.name, w) ∷ []) (place_after i)
-          (after_plain s before slots read given i w st) in
+      are_used items (before ++ s ∷ []) slots read (given ++ (s.name, w) ∷ []) (place_after i)
+      (after_plain s before slots read given i w st) in
       let longer : length (before ++ s ∷ []) ≡ length before + 1 = length-append before (s ∷ []) in
       let same : length (before ++ s ∷ []) + length (plains_in items) ≡ length before + length (w ∷ plains_in items) =
-          omega arith in
+      omega arith in
       rw (place_here before (s ∷ slots) read given i st, new, rest, same) (plain_step (fits s.limit w) _ (plains_fit slots (plains_in items)) _)
   are_used (option name v ∷ items) before slots read given i st =
       rw (long_found u.least 0 1 u.plains u.options name)
@@ -294,7 +294,7 @@ module _ (u : Usage) (diff : different (names_of u.plains ++ names_of u.options)
   values_are (plain w ∷ items) before [] given i split at plains options = absurd (false≢true plains)
   values_are (plain w ∷ items) before (s ∷ slots) given i split at plains options =
       let all : length u.plains ≡ length before + length (s ∷ slots) =
-          ap length split ∙ length-append before (s ∷ slots) in
+      ap length split ∙ length-append before (s ∷ slots) in
       let longer : length (before ++ s ∷ []) ≡ length before + 1 = length-append before (s ∷ []) in
       let (here, rest) = and_both (fits s.limit w) _ plains in
       let next : place_after i ≡ 1 + length (before ++ s ∷ []) = next_place i (omega arith) ∙ omega arith in
@@ -309,7 +309,7 @@ module _ (u : Usage) (diff : different (names_of u.plains ++ names_of u.options)
       → given_after (args_for u) items [] 1 ≡ values_in u.plains items
   use_values items e =
       let (plains, options) =
-          and_both (nat_le u.least (length (plains_in items)) && plains_fit u.plains (plains_in items)) _ e in
+      and_both (nat_le u.least (length (plains_in items)) && plains_fit u.plains (plains_in items)) _ e in
       values_are items [] u.plains [] 1 refl (omega arith)
       (and_both (nat_le u.least (length (plains_in items))) _ plains).1
       (and_both (list_all (option_fits u.options) (options_in items)) _ options).0

@@ -17,7 +17,7 @@ term_is a t x y z h =
 
 pub colour_product-progression : (ws : List ℤ) (i j a k : ℕ)
     → colour_product ws i j a k
-        ≡ product_below (a + 1) (progression (pos a *ℤ (weight ws j -ℤ weight ws k)) (weight ws i -ℤ weight ws j))
+    ≡ product_below (a + 1) (progression (pos a *ℤ (weight ws j -ℤ weight ws k)) (weight ws i -ℤ weight ws j))
 unfolding colour_product
 colour_product-progression ws i j a k =
     product_below-same (a + 1) (colour_term ws i j a k) _

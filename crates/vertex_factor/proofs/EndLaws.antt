@@ -50,7 +50,7 @@ swapped a d p = sym (*ℤ_assoc a d p) ∙ ap (λ z. z *ℤ p) (*ℤ_comm a d) �
 
 pub crossed-cons : (ws : List ℤ) (c : ℕ) (e : End) (es : List End)
     → crossed_sum ws c (e ∷ es)
-        ≡ pos e.degree *ℤ product_of_differences ws c es +ℤ difference ws c e *ℤ crossed_sum ws c es
+    ≡ pos e.degree *ℤ product_of_differences ws c es +ℤ difference ws c e *ℤ crossed_sum ws c es
 crossed-cons ws c e es =
     total-first (length es) (λ u. pos (degree_at (e ∷ es) u) *ℤ product_of_differences ws c (remove (e ∷ es) u))
     ∙ ap (λ z. pos e.degree *ℤ product_of_differences ws c es +ℤ z)
@@ -70,7 +70,7 @@ regrouped ax b dx cr de ae =
 
 pub crossed-push : (ws : List ℤ) (c : ℕ) (es : List End) (e : End)
     → crossed_sum ws c (es ++ e ∷ [])
-        ≡ crossed_sum ws c es *ℤ difference ws c e +ℤ pos e.degree *ℤ product_of_differences ws c es
+    ≡ crossed_sum ws c es *ℤ difference ws c e +ℤ pos e.degree *ℤ product_of_differences ws c es
 crossed-push ws c [] e =
     let one = crossed-cons ws c e [] in
     let none = *ℤ_comm (pos 0) (difference ws c e) in

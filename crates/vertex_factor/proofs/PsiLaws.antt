@@ -30,7 +30,7 @@ one_end_one_mark ws c es (j ∷ l ∷ ks) e k he hk s h = absurd (omega arith)
 
 stable_choice : (ws : List ℤ) (c : ℕ) (es : List End) (ks : List ℕ) → 3 ≤ length es + length ks
     → psi_vertex ws c es ks
-        ≡ (if nat_lt (length es + length ks - 3) (sum ks) then fraction (pos 0) (pos 1) else stable_psi_vertex ws c es ks)
+    ≡ (if nat_lt (length es + length ks - 3) (sum ks) then fraction (pos 0) (pos 1) else stable_psi_vertex ws c es ks)
 unfolding psi_vertex
 stable_choice ws c [] ks h = refl
 stable_choice ws c (e ∷ []) [] h = refl
@@ -59,11 +59,11 @@ pub stable_psi_top : {m x : ℕ} (ws : List ℤ) (c : ℕ) (es : List End) (ks :
     → Leaves m (stable_psi_vertex ws c es ks).top x
 stable_psi_top {m} {x} ws c es ks s left ways e f g l =
     let at_left =
-        subst
-        (λ n. Leaves m (power (tangent_product ws c) (s - 1) *ℤ product_of_degrees es *ℤ power (crossed_sum ws c es) n *ℤ pos ways) x) f l in
+    subst
+    (λ n. Leaves m (power (tangent_product ws c) (s - 1) *ℤ product_of_degrees es *ℤ power (crossed_sum ws c es) n *ℤ pos ways) x) f l in
     let at_ways =
-        subst
-        (λ n. Leaves m (power (tangent_product ws c) (s - 1) *ℤ product_of_degrees es *ℤ power (crossed_sum ws c es) (s + length ks - 3 - sum ks) *ℤ pos n) x) g at_left in
+    subst
+    (λ n. Leaves m (power (tangent_product ws c) (s - 1) *ℤ product_of_degrees es *ℤ power (crossed_sum ws c es) (s + length ks - 3 - sum ks) *ℤ pos n) x) g at_left in
     subst
     (λ n. Leaves m (power (tangent_product ws c) (n - 1) *ℤ product_of_degrees es *ℤ power (crossed_sum ws c es) (n + length ks - 3 - sum ks) *ℤ pos (multinomial (n + length ks - 3) ks)) x)
     (sym e) at_ways

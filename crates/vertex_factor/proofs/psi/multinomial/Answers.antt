@@ -9,7 +9,7 @@ overflow_mul-result c =
     omega (
       arith,
       multinomial_fits c.args.n
-      (sum c.args.exponents.now) c.product_of_factorials.result _ c.requires.limited c.requires.within
+          (sum c.args.exponents.now) c.product_of_factorials.result _ c.requires.limited c.requires.within
           c.product_of_factorials.ensures.bounded (c.factorial-2.ensures ∙ ap (λ s. factorial (c.args.n - s)) c.sum.ensures),
     )
 
