@@ -20,6 +20,11 @@ pub record ProblemView : Type 0 where
   pub bottom_bound : ℕ
   pub integrals : List (List Term)
 
+-- the problem of these parts
+abbrev pub problem_of_parts : TreeShape → List ℤ → List ℕ → ℕ → ℕ → List (List Term) → ProblemView
+problem_of_parts shape weights moduli top bottom integrals =
+    record { shape = shape; weights = weights; moduli = moduli; top_bound = top; bottom_bound = bottom; integrals = integrals }
+
 -- the dimension (r + 1) d + r - 3 + m of the space of stable maps of degree d with m marks to the projective space of dimension r
 abbrev pub dimension_of : TreeShape → ℕ
 dimension_of s = (s.rank + 1) * s.degree + s.rank + s.marks - 3

@@ -3,6 +3,3 @@ pub mod BadTrees
 pub mod SumIndices
 pub mod RangeLaws
 pub mod BlockLaws
-pub mod TestRules
-pub mod ConicRules
-pub mod CoverRules

@@ -7,3 +7,6 @@ mod report;
 mod text;
 
 pub use report::{Report, done, no_inverse};
+
+#[cfg(test)]
+mod tests;

@@ -1,9 +1,6 @@
 //! Sums of problems whose values are known, through their tables.
 
-ghost use Rattle.std.specs.Prelude.{◌≡◌, ◌∷◌, [], IfOk};
 ghost use Rattle.problem.specs.Problems.{view as problem_view};
-ghost use Rattle.range_sum.specs.Conics.{conic_integrals, five_points};
-ghost use Rattle.range_sum.specs.Covers.{cover_integrals};
 ghost use Rattle.factor_table.specs.Seats.{IsSeatOf};
 ghost use Rattle.table_sum.specs.Problems.{IsTableOf};
 
@@ -20,33 +17,34 @@ use tree_parts::TreeParts;
 /// The conics in the plane with one mark that meet five points, modulo 1,000,000,007 and 101: once with the mark on a
 /// line, and once with three times its psi class added.
 fn conics(alloc: Global, weights: &[i64]) -> Result<Problem, Fail> {
-    let Ok(shape) = Shape::new(2, 2, 1) else {
-        return Err("refused".into());
-    };
-    let setup = Setup::new(weights)?;
-    if setup.rank() != 2 {
-        return Err("not the plane".into());
-    }
-    Ok(Problem {
-        shape,
-        setup,
-        moduli: two_moduli(alloc, 101)?,
-        top_bound: 100,
-        bottom_bound: 100,
-        integrals: two_integrals(alloc)?,
-    })
+    problem_of(
+        (2, 2, 1),
+        weights,
+        two_moduli(alloc, 101)?,
+        two_integrals(alloc)?,
+    )
 }
 
-fn two_moduli(alloc: Global, second: u64) -> Result<Moduli, Fail>
-    ensures { IfOk result (λ moduli. moduli ≡ 1000000007 ∷ second ∷ []) }
-{
+/// The problem of these parts, with both bounds 100.
+fn problem_of(
+    (r, d, m): (u8, u8, u8),
+    weights: &[i64],
+    moduli: Moduli,
+    integrals: Integrals,
+) -> Result<Problem, Fail> {
+    let Ok(shape) = Shape::new(r, d, m) else {
+        return Err("no shape".into());
+    };
+    let problem = Problem::new(shape, Setup::new(weights)?, moduli, 100, 100, integrals);
+    Ok(problem.ok_or("no problem")?)
+}
+
+fn two_moduli(alloc: Global, second: u64) -> Result<Moduli, Fail> {
     let moduli = vec![in alloc; Modulus::new(1_000_000_007)?, Modulus::new(second)?]?;
     Ok(Moduli::of(moduli))
 }
 
-fn two_integrals(alloc: Global) -> Result<Integrals, Fail>
-    ensures { IfOk result (λ integrals. integrals ≡ conic_integrals) }
-{
+fn two_integrals(alloc: Global) -> Result<Integrals, Fail> {
     let on_line = Power {
         class: Class::Mark { mark: 1 },
         power: 1,
@@ -62,9 +60,7 @@ fn two_integrals(alloc: Global) -> Result<Integrals, Fail>
 }
 
 /// A coefficient times the class of the conics that meet five points, times another class.
-fn term(alloc: Global, coefficient: i64, other: Power) -> Result<Term, Fail>
-    ensures { IfOk result (λ term. term ≡ five_points coefficient other) }
-{
+fn term(alloc: Global, coefficient: i64, other: Power) -> Result<Term, Fail> {
     let points = Power {
         class: Class::Incidence { q: 2 },
         power: 5,
@@ -79,26 +75,15 @@ fn term(alloc: Global, coefficient: i64, other: Power) -> Result<Term, Fail>
 /// The covers of degree 4 of a line, modulo 1,000,000,007 and 5, by the square of the class of the first direct image
 /// of O(-1).
 fn covers(alloc: Global) -> Result<Problem, Fail> {
-    let Ok(shape) = Shape::new(1, 4, 0) else {
-        return Err("refused".into());
-    };
-    let setup = Setup::new(&[1, 3])?;
-    if setup.rank() != 1 {
-        return Err("not the line".into());
-    }
-    Ok(Problem {
-        shape,
-        setup,
-        moduli: two_moduli(alloc, 5)?,
-        top_bound: 100,
-        bottom_bound: 100,
-        integrals: cover_integrals(alloc)?,
-    })
+    problem_of(
+        (1, 4, 0),
+        &[1, 3],
+        two_moduli(alloc, 5)?,
+        cover_integrals(alloc)?,
+    )
 }
 
-fn cover_integrals(alloc: Global) -> Result<Integrals, Fail>
-    ensures { IfOk result (λ integrals. integrals ≡ cover_integrals) }
-{
+fn cover_integrals(alloc: Global) -> Result<Integrals, Fail> {
     let image = Power {
         class: Class::R1 { k: 1 },
         power: 2,
