@@ -1,11 +1,9 @@
 -- Moduli that are read one after another.
 use Rattle.std.proofs.Common.{◌≡◌, ℕ, zero, suc, ℤ, ◌<◌, ◌≤◌, ◌+◌, ◌*◌, ◌^◌, List, [], ◌∷◌, ◌++◌, Result, Ok, Err, Bool, true, false, nat_eq, drop, length, get_or, slice_index, arith, All, refl, sym, ap, subst, ◌∙◌}
-use Rattle.std.proofs.Math.Nat.{mul_assoc, mul-pos, le_trans}
 use Rattle.std.proofs.lemmas.Bool.{eqb-true}
 use Rattle.std.proofs.lemmas.List.{append-nil, drop_all, drop_more}
-use Rattle.std.proofs.lemmas.List.Elements.{All-push, All-drop}
+use Rattle.std.proofs.lemmas.List.Elements.{All-push}
 use Rattle.arithmetic.specs.Numbers.{gcd}
-use Rattle.trees.specs.Numbering.{product_of}
 use Rattle.residue.specs.Limits.{IsModulus}
 use Rattle.recover_fraction.specs.CommonResidues.{ArePairwiseCoprime}
 use Rattle.problem_toml.specs.Moduli.{modulus_of, moduli_from, coprime_to, coprime_from}
@@ -27,28 +25,6 @@ moduli_all xs n zs i over = rw (drop_all i zs over, append-nil)
 
 pub modulus_added : (xs : List ℕ) (m : ℕ) → All IsModulus xs → IsModulus m → All IsModulus (xs ++ m ∷ [])
 modulus_added xs m are is = All-push IsModulus xs m are is
-
--- one more factor of a product
-pub product_next : (p m whole : ℕ) (ms : List ℕ) (i d : ℕ) → i < length ms → m ≡ get_or ms i d → p * product_of (drop i ms) ≡ whole → (p * m) * product_of (drop (i + 1) ms) ≡ whole
-product_next p m whole ms i d inside is so_far =
-    mul_assoc p m (product_of (drop (i + 1) ms)) ∙ ap (λ n. p * (n * product_of (drop (i + 1) ms))) is ∙ sym (ap (λ ns. p * product_of ns) (drop_more ms i d inside)) ∙ so_far
-
-positive : (ms : List ℕ) → All IsModulus ms → 0 < product_of ms
-positive [] are = omega arith
-positive (m ∷ ms) are = mul-pos (some m (are 0 m (omega arith))) (positive ms (λ i d inside. are (suc i) d (omega arith)))
-  where
-    some : (m : ℕ) → IsModulus m → 0 < m
-    some m is = omega (arith, is.at_least_3)
-
--- a product that 128 bits do not hold, with the factors after it
-pub product_too_large : (p m whole : ℕ) (ms : List ℕ) (i d : ℕ) → All IsModulus ms → i < length ms → m ≡ get_or ms i d → p * product_of (drop i ms) ≡ whole → 2 ^ 128 ≤ p * m → 2 ^ 128 ≤ whole
-product_too_large p m whole ms i d are inside is so_far large =
-    subst (λ n. 2 ^ 128 ≤ n) (product_next p m whole ms i d inside is so_far)
-    (le_trans large (more (p * m) (product_of (drop (i + 1) ms)) (positive (drop (i + 1) ms) (All-drop IsModulus (i + 1) ms are))))
-  where
-    more : (a b : ℕ) → 0 < b → a ≤ a * b
-    more a zero some = elim some [ ]
-    more a (suc b) some = grind (arith)
 
 -- no two have a common divisor above 1 if no such pair is found
 coprime_each : (i m j : ℕ) (ns : List ℕ) → coprime_to i m j ns ≡ Ok tt → (k : ℕ) → k < length ns → gcd m (slice_index ns k) ≡ 1

@@ -19,6 +19,10 @@ use Rattle.problem_toml.specs.declared.error.ProblemError.{ProblemError}
 use Rattle.problem_toml.specs.declared.error.ProblemError.TheVariants.{WrongDegree}
 use Rattle.problem_toml.specs.declared.header.Header.{Header}
 
+-- what is made is not None
+pub impossible : false ≡ true → ⊥
+impossible h = cc
+
 none_found : (p : ℤ → Bool) (ws : List ℤ) (i : ℕ) → list_any p ws ≡ false → position_from p i ws ≡ None
 none_found p [] i none = refl
 none_found p (w ∷ ws) i none = by_test p w ws i (p w) refl none (none_found p ws (i + 1))

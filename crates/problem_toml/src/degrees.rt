@@ -1,7 +1,7 @@
 //! The degrees of terms.
 
 ghost use Rattle.std.specs.Prelude.{◌≡◌, ◌≤◌, ◌+◌, All, length, sum_by};
-ghost use Rattle.problem.specs.Rules.{IsPower, IsTerm, powers_degree};
+ghost use Rattle.problem.specs.Rules.{IsTerm};
 ghost use Rattle.problem_toml.specs.Header.{IsHeader, header_shape};
 ghost use Rattle.problem_toml.specs.Reading.{degrees_fit, all_degrees_fit};
 ghost use Rattle.problem_toml.specs.Steps.{GivesSurely};
@@ -9,20 +9,8 @@ ghost use Rattle.problem_toml.specs.Steps.{GivesSurely};
 use crate::error::ProblemError;
 use crate::header::Header;
 use crate::table::check;
-use residue::{Power, Term, Terms};
-
-fn degree(header: &Header, powers: &[Power]) -> u64
-    requires header { IsHeader header.now }
-    requires powers { All (IsPower header.now.marks) powers.now }
-    requires count { length powers.now ≤ 16 }
-    ensures { result ≡ powers_degree header.now.degree powers.now }
-{
-    let mut degree = 0;
-    for power in powers {
-        degree += power.class.degree(header.degree) * power.power as u64;
-    }
-    degree
-}
+use problem::degree;
+use residue::{Term, Terms};
 
 fn check_degrees(header: &Header, first: u32, terms: &[Term]) -> Result<(), ProblemError>
     requires header { IsHeader header.now }
@@ -32,7 +20,7 @@ fn check_degrees(header: &Header, first: u32, terms: &[Term]) -> Result<(), Prob
 {
     let dimension = header.dimension();
     for (place, term) in terms.iter().enumerate() {
-        let degree = degree(header, term.classes.as_slice());
+        let degree = degree(header.degree, term.classes.as_slice());
         check(
             degree == dimension,
             ProblemError::WrongDegree {

@@ -32,16 +32,14 @@ const BOTTOM_BOUND: u64 = 1_000;
 pub fn generated(alloc: Global, number: u32) -> Result<Problem, NoMemory>
     ensures { IfOk result (λ problem. problem_view problem ≡ generated_problem number) }
 {
-    let moduli = moduli(alloc)?;
-    let integrals = integrals(alloc)?;
-    Ok(Problem {
-        shape: shape(3 + (number % 2) as u8),
-        setup: setup(10 + (number % 90) as u64),
-        moduli: Moduli::of(moduli),
-        top_bound: TOP_BOUND,
-        bottom_bound: BOTTOM_BOUND,
-        integrals: Integrals::of(integrals),
-    })
+    let moduli = Moduli::of(moduli(alloc)?);
+    let integrals = Integrals::of(integrals(alloc)?);
+    let shape = shape(3 + (number % 2) as u8);
+    let setup = setup(10 + (number % 90) as u64);
+    match Problem::new(shape, setup, moduli, TOP_BOUND, BOTTOM_BOUND, integrals) {
+        Some(problem) => Ok(problem),
+        None => unreachable!(),
+    }
 }
 
 // The shape of degree 3 or 4.

@@ -1,6 +1,6 @@
 //! The weights, the moduli and the bounds, as the rules that compare them want them.
 
-ghost use Rattle.std.specs.Prelude.{◌≡◌, ◌≤◌, ◌<◌, ◌+◌, ◌^◌, ◌*◌, false, IfOk, OnOk, IfSome, IsNone, All, length, drop, slice_index};
+ghost use Rattle.std.specs.Prelude.{◌≡◌, ◌≤◌, ◌<◌, ◌+◌, ◌^◌, ◌*◌, false, IfOk, OnOk, All, length, drop, slice_index};
 ghost use Rattle.std.specs.List.{list_any};
 ghost use Rattle.trees.specs.Numbering.{product_of};
 ghost use Rattle.residue.specs.Limits.{IsModulus, AreWeights, is_beyond_limit};
@@ -13,6 +13,7 @@ ghost use Rattle.problem_toml.specs.Steps.{Gives, GivesSurely};
 use crate::error::ProblemError;
 use crate::header::{Header, Written};
 use crate::table::check;
+use problem::product;
 use residue::{Modulus, ModulusError, Setup, coprime};
 use std::alloc::Global;
 
@@ -99,19 +100,6 @@ fn check_coprime(moduli: &[Modulus]) -> Result<(), ProblemError>
         check_coprime_to(moduli, first)?;
     }
     Ok(())
-}
-
-// The product, if it fits in 128 bits.
-fn product(moduli: &[Modulus]) -> Option<u128>
-    requires { All IsModulus moduli.now }
-    ensures value { IfSome result (λ product. product ≡ product_of moduli.now) }
-    ensures none { IsNone result → 2 ^ 128 ≤ product_of moduli.now }
-{
-    let mut product: u128 = 1;
-    for modulus in moduli {
-        product = product.checked_mul(modulus.get() as u128)?;
-    }
-    Some(product)
 }
 
 #[tactic(auto, unfolding(crate::specs::Moduli::bounds_fit))]

@@ -60,14 +60,19 @@ fn problem_with(
     let integrals = integrals(alloc, version, header.marks, values)?;
     check_all_degrees(header, integrals.as_slice())?;
     let shape = header.shape()?;
-    Ok(Problem {
+    let moduli = Moduli::of(moduli);
+    let integrals = Integrals::of(integrals);
+    match Problem::new(
         shape,
         setup,
-        moduli: Moduli::of(moduli),
-        top_bound: header.top_bound,
-        bottom_bound: header.bottom_bound,
-        integrals: Integrals::of(integrals),
-    })
+        moduli,
+        header.top_bound,
+        header.bottom_bound,
+        integrals,
+    ) {
+        Some(problem) => Ok(problem),
+        None => unreachable!(),
+    }
 }
 
 #[tactic(auto, unfolding(crate::specs::Reading::problem_of))]
