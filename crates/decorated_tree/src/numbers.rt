@@ -16,7 +16,7 @@ pub(crate) struct Numbers {
 
 impl Model for Numbers {
     ghost use Rattle.std.specs.Prelude.{ℕ, List, take};
-    ghost use Rattle.trees.specs.Padding.{IsPadded};
+    ghost use Rattle.lists.specs.Padding.{IsPadded};
 
     ghost Value = { List ℕ };
 

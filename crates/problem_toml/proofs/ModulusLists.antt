@@ -5,9 +5,9 @@ use Rattle.std.proofs.lemmas.Bool.{eqb-true}
 use Rattle.std.proofs.lemmas.List.{append-nil, drop_all, drop_more}
 use Rattle.std.proofs.lemmas.List.Elements.{All-push, All-drop}
 use Rattle.arithmetic.specs.Numbers.{gcd}
-use Rattle.trees.specs.Numbering.{product_of}
+use Rattle.lists.specs.Digits.{product_of}
 use Rattle.residue.specs.Limits.{IsModulus}
-use Rattle.recover_fraction.specs.CommonResidues.{ArePairwiseCoprime}
+use Rattle.arithmetic.specs.Agreement.{ArePairwiseCoprime}
 use Rattle.problem_toml.specs.Moduli.{modulus_of, moduli_from, coprime_to, coprime_from}
 use Rattle.problem_toml.specs.Steps.{◌>>=◌, keep}
 use Rattle.problem_toml.specs.declared.error.ProblemError.{ProblemError}

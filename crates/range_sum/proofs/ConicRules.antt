@@ -2,14 +2,14 @@
 use Rattle.std.proofs.Common.{◌≡◌, ℕ, ◌≤◌, ◌^◌, true, ℤ, pos, List, [], ◌∷◌, length, All, refl, arith}
 use Rattle.std.proofs.lemmas.List.Elements.{All-nil, All-cons}
 use Rattle.trees.specs.Decorated.{TreeShape}
-use Rattle.trees.specs.Numbers.{tree_count}
+use Rattle.trees.specs.TreeNumbers.{tree_count}
 use Rattle.arithmetic.specs.Numbers.{gcd}
 use Rattle.arithmetic.proofs.Euclid.{last_remainder, gcd_by_euclid}
 use Rattle.decorated_tree.specs.Shapes.{shape_of, within_limits}
 use Rattle.residue.specs.Limits.{IsModulus, AreWeights}
-use Rattle.residue.specs.declared.class.Class.TheVariants.{Mark, Incidence, Psi}
-use Rattle.residue.specs.declared.class.Power.{Power}
-use Rattle.residue.specs.declared.class.Term.{Term}
+use Rattle.classes.specs.declared.class.Class.TheVariants.{Mark, Incidence, Psi}
+use Rattle.classes.specs.declared.class.Power.{Power}
+use Rattle.classes.specs.declared.class.Term.{Term}
 use Rattle.problem.specs.Rules.{IsPower, IsTermOf, IsIntegralOf, KeepsRules}
 use Rattle.range_sum.specs.Conics.{five_points, conic_integrals}
 use Rattle.range_sum.proofs.TestRules.{two_moduli, keeps_rules}

@@ -4,11 +4,11 @@ use Rattle.std.proofs.lemmas.List.Elements.{All-nil, All-cons}
 use Rattle.arithmetic.specs.Numbers.{gcd}
 use Rattle.arithmetic.proofs.Euclid.{last_remainder, gcd_by_euclid}
 use Rattle.trees.specs.Decorated.{TreeShape}
-use Rattle.trees.specs.Numbers.{tree_count}
+use Rattle.trees.specs.TreeNumbers.{tree_count}
 use Rattle.decorated_tree.specs.Shapes.{shape_of, within_limits}
 use Rattle.residue.specs.Limits.{IsModulus, AreWeights}
-use Rattle.residue.specs.declared.class.Class.TheVariants.{R1}
-use Rattle.residue.specs.declared.class.Term.{Term}
+use Rattle.classes.specs.declared.class.Class.TheVariants.{R1}
+use Rattle.classes.specs.declared.class.Term.{Term}
 use Rattle.problem.specs.Rules.{IsPower, IsTermOf, IsIntegralOf, KeepsRules}
 use Rattle.range_sum.specs.Covers.{cover_term, cover_integrals}
 use Rattle.range_sum.proofs.TestRules.{two_moduli, keeps_rules}

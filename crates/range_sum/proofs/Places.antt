@@ -11,11 +11,11 @@ use Rattle.arithmetic.specs.Numbers.{gcd}
 use Rattle.arithmetic.specs.Fractions.{Fraction, plus, IsResidue}
 use Rattle.residue.specs.Answers.{GivesResidue}
 use Rattle.residue.specs.Ratios.{IsRatioOf}
-use Rattle.residue.specs.declared.class.Term.{Term}
+use Rattle.classes.specs.declared.class.Term.{Term}
 use Rattle.residue.specs.declared.errors.NoUnit.{NoUnit}
 use Rattle.residue.specs.declared.ratio.Ratio.{Ratio}
 use Rattle.trees.specs.Decorated.{DecoratedTree, TreeShape}
-use Rattle.trees.specs.Numbers.{tree_of}
+use Rattle.trees.specs.TreeNumbers.{tree_of}
 use Rattle.localisation.specs.Contribution.{contribution}
 use Rattle.localisation.specs.Agreement.{lacks_residue, is_bad_for, is_bad_number, modulus_at, integral_at}
 use Rattle.problem.specs.declared.problem.Problem.{Problem}

@@ -3,11 +3,11 @@ use Rattle.std.proofs.Common.{◌≡◌, ℕ, zero, suc, ◌+◌, ◌≤◌, ◌
 use Rattle.std.proofs.lemmas.List.Elements.{All-nil, All-cons}
 use Rattle.arithmetic.specs.Numbers.{gcd}
 use Rattle.trees.specs.Decorated.{TreeShape}
-use Rattle.trees.specs.Numbers.{tree_count}
+use Rattle.trees.specs.TreeNumbers.{tree_count}
 use Rattle.decorated_tree.specs.Shapes.{within_limits}
 use Rattle.residue.specs.Limits.{IsModulus, AreWeights}
-use Rattle.residue.specs.declared.class.Term.{Term}
-use Rattle.recover_fraction.specs.CommonResidues.{ArePairwiseCoprime}
+use Rattle.classes.specs.declared.class.Term.{Term}
+use Rattle.arithmetic.specs.Agreement.{ArePairwiseCoprime}
 use Rattle.problem.specs.Rules.{IsIntegralOf, AreModuli, AreBounds, KeepsRules}
 
 abbrev pub two_moduli : ℕ → List ℕ

@@ -1,8 +1,8 @@
 -- The integrals that the tests sum: conics in the plane that meet five points.
 use Rattle.std.specs.Prelude.{ℤ, pos, List, [], ◌∷◌}
-use Rattle.residue.specs.declared.class.Class.TheVariants.{Mark, Incidence, Psi}
-use Rattle.residue.specs.declared.class.Power.{Power}
-use Rattle.residue.specs.declared.class.Term.{Term}
+use Rattle.classes.specs.declared.class.Class.TheVariants.{Mark, Incidence, Psi}
+use Rattle.classes.specs.declared.class.Power.{Power}
+use Rattle.classes.specs.declared.class.Term.{Term}
 
 -- a coefficient times five conditions of a point, times another class
 abbrev pub five_points : ℤ → Power → Term

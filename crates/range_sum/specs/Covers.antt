@@ -1,7 +1,7 @@
 -- The integral that the tests sum: covers of a line.
 use Rattle.std.specs.Prelude.{pos, List, [], ◌∷◌}
-use Rattle.residue.specs.declared.class.Class.TheVariants.{R1}
-use Rattle.residue.specs.declared.class.Term.{Term}
+use Rattle.classes.specs.declared.class.Class.TheVariants.{R1}
+use Rattle.classes.specs.declared.class.Term.{Term}
 
 -- the square of the class of the first direct image of O(-1)
 abbrev pub cover_term : Term

@@ -1,7 +1,7 @@
 -- What seats know of the edges of trees, passed on from one seat to another.
 use Rattle.std.proofs.Common.{◌≡◌, ℕ, List, ◌++◌, Contains, sym, subst}
 use Rattle.std.proofs.lemmas.List.Elements.{Contains-append_left, Contains-append_right}
-use Rattle.trees.specs.Numbers.{tree_of}
+use Rattle.trees.specs.TreeNumbers.{tree_of}
 use Rattle.problem.specs.declared.problem.Problem.{Problem}
 use Rattle.factor_table.specs.declared.table.FactorTable.{FactorTable}
 use Rattle.factor_table.specs.declared.table.FactorSeat.{FactorSeat}

@@ -1,5 +1,5 @@
 use Rattle.std.proofs.Common.{◌∙◌, ◌*◌, ◌+◌, ap, arith, drop}
-use Rattle.trees.specs.Numbering.{product_of}
+use Rattle.lists.specs.Digits.{product_of}
 use Rattle.problem_toml.proofs.ModulusLists.{product_next, product_too_large}
 use Rattle.problem_toml.proofs.moduli.product.Goals as goal
 

@@ -1,5 +1,5 @@
 use Rattle.std.proofs.Common.{◌≤◌, ◌<◌, ◌+◌, ap, length, get_or, arith, ◌∙◌}
-use Rattle.trees.specs.Numbers.{tree_count}
+use Rattle.trees.specs.TreeNumbers.{tree_count}
 use Rattle.decorated_tree.proofs.Places.{length-counts_of, more_before, before_within}
 use Rattle.decorated_tree.proofs.shape.Shape.before.Goals as goal
 
