@@ -1,9 +1,9 @@
 -- The greatest common divisor: Euclid's algorithm finds it, since the greatest number that divides both is the one common divisor that
 -- every other one divides.
-use Rattle.std.proofs.Common.{◌≡◌, ℕ, zero, suc, ◌+◌, ◌%◌, ◌<◌, ◌≤◌, ◌⊎◌, inl, inr, Bool, true, false, ◌&&◌, ◌==◌, if◌then◌else◌, refl, sym, ◌∙◌, subst, ⊎_elim, arith, eqb-true, eq-eqb}
+use Rattle.std.proofs.Common.{◌≡◌, ℕ, zero, suc, ◌+◌, ◌%◌, ◌<◌, ◌≤◌, ◌⊎◌, inl, inr, Bool, true, false, ◌==◌, if◌then◌else◌, refl, sym, ◌∙◌, subst, ⊎_elim, arith, eqb-true, eq-eqb}
 use Rattle.std.specs.Int.{◌∣◌, IsGcd}
 use Rattle.std.proofs.lemmas.Nat.Gcd.{IsGcd-from_zero, IsGcd-from_mod, dvd_of_mod-eq-zero, mod-eq-zero_of_dvd, le_of_dvd, dvd-zero}
-use Rattle.std.proofs.lemmas.Bool.{cases_lt}
+use Rattle.std.proofs.lemmas.Bool.{cases_lt, and_from, and_parts}
 use Rattle.std.proofs.Math.Nat.{mod-lt, zero-lt-suc, eq-zero-or-pos, eq-zero_of_zero-dvd}
 use Rattle.arithmetic.specs.Numbers.{gcd, greatest_divisor, divides_both}
 
@@ -28,19 +28,13 @@ unfolding last_remainder
 last_remainder_is a b = remainder_in_steps_is (suc b) a b (omega arith)
 
 -- ---- the greatest number that divides both
-both : (x y : Bool) → (x && y) ≡ true → (x ≡ true) × (y ≡ true)
-both x y h = grind arith
-
-join : (x y : Bool) → x ≡ true → y ≡ true → (x && y) ≡ true
-join x y h k = grind arith
-
 dividing : (a b d : ℕ) → divides_both a b d ≡ true → (d ∣ a) × (d ∣ b)
 dividing a b d h =
-    let p = both (a % d == 0) (b % d == 0) h in
+    let p = and_parts (a % d == 0) (b % d == 0) h in
     (dvd_of_mod-eq-zero d (eqb-true (a % d) 0 p.0), dvd_of_mod-eq-zero d (eqb-true (b % d) 0 p.1))
 
 divided : (a b d : ℕ) → d ∣ a → d ∣ b → divides_both a b d ≡ true
-divided a b d p q = join (a % d == 0) (b % d == 0) (eq-eqb (a % d) 0 (mod-eq-zero_of_dvd d p)) (eq-eqb (b % d) 0 (mod-eq-zero_of_dvd d q))
+divided a b d p q = and_from (a % d == 0) (b % d == 0) (eq-eqb (a % d) 0 (mod-eq-zero_of_dvd d p)) (eq-eqb (b % d) 0 (mod-eq-zero_of_dvd d q))
 
 greatest_is : (a b g n : ℕ) → IsGcd a b g → 0 < g → g ≤ n → greatest_divisor a b n ≡ g
 unfolding greatest_divisor

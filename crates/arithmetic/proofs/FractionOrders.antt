@@ -11,7 +11,7 @@ use Rattle.arithmetic.proofs.FractionSums.{plus-assoc, zero-plus}
 pub plus-comm : (f g : Fraction) → plus f g ≡ plus g f
 plus-comm f g = ap₂ fraction (+ℤ_comm (f.top *ℤ g.bottom) (g.top *ℤ f.bottom)) (*ℤ_comm f.bottom g.bottom)
 
--- the second summand comes to the front
+-- the second summand comes first
 plus-second_first : (f g h : Fraction) → plus f (plus g h) ≡ plus g (plus f h)
 plus-second_first f g h = sym (plus-assoc f g h) ∙ ap (λ z. plus z h) (plus-comm f g) ∙ plus-assoc g f h
 

@@ -2,7 +2,7 @@
 use Rattle.std.proofs.Common.{◌≡◌, List, [], ◌∷◌, ◌++◌, ℤ, pos, ◌+ℤ◌, ◌*ℤ◌, sym, ap, ap₂, ◌∙◌}
 use Rattle.std.proofs.Math.IntN.{*ℤ-one, *ℤ_comm, zero-*ℤ, +ℤ_idl, +ℤ_idr, +ℤ_assoc}
 use Rattle.arithmetic.specs.Fractions.{Fraction, fraction, times, plus, sum_of_fractions}
-use Rattle.arithmetic.proofs.NumberLaws.{*ℤ_assoc, *ℤ-+ℤ}
+use Rattle.arithmetic.proofs.IntegerLaws.{*ℤ_assoc, *ℤ-+ℤ}
 
 pub *ℤ-pos-one : (z : ℤ) → z *ℤ pos 1 ≡ z
 unfolding lib.IntN.one
@@ -11,11 +11,11 @@ unfolding lib.IntN.one
 pub one-*ℤ : (z : ℤ) → pos 1 *ℤ z ≡ z
 one-*ℤ z = *ℤ_comm (pos 1) z ∙ *ℤ-pos-one z
 
--- a factor moves from the front to the end
+-- a factor moves from the start to the end
 turn : (x y z : ℤ) → x *ℤ (y *ℤ z) ≡ y *ℤ (z *ℤ x)
 turn x y z = *ℤ_comm x (y *ℤ z) ∙ *ℤ_assoc y z x
 
--- the second factor comes to the front
+-- the second factor comes first
 second_first : (x y z : ℤ) → x *ℤ (y *ℤ z) ≡ y *ℤ (x *ℤ z)
 second_first x y z = turn x y z ∙ ap (λ w. y *ℤ w) (*ℤ_comm z x)
 

@@ -1,7 +1,7 @@
 -- Steps of arithmetic modulo m: what an operation on residues gives.
 use Rattle.std.proofs.Common.{◌≡◌, ℕ, suc, ◌+◌, ◌-◌, ◌*◌, ◌%◌, ◌^◌, ◌<◌, ℤ, pos, ◌+ℤ◌, ◌-ℤ◌, ◌*ℤ◌, sym, ap, ◌∙◌, arith, add-one, mul_comm}
-use Rattle.arithmetic.specs.Numbers.{power, product_below, sum_below, factorial, reduce, Leaves}
-use Rattle.arithmetic.proofs.NumberLaws.{reduce-*ℤ, reduce-+ℤ, reduce_below}
+use Rattle.arithmetic.specs.Numbers.{power, product_below, integer_sum_below, factorial, reduce, Leaves}
+use Rattle.arithmetic.proofs.ReduceLaws.{reduce-*ℤ, reduce-+ℤ, reduce_below}
 use Rattle.arithmetic.proofs.Residues.{reduce-power}
 use Rattle.arithmetic.proofs.Congruences.{same_refl, same_of_eq, same_trans, same_add, same_mod}
 use Rattle.std.proofs.Math.IntN.{ -ℤ-+ℤ_cancel}
@@ -67,6 +67,6 @@ Leaves-factorial {m} {x} {y} {r} n p q e =
     rw (← same) l
 
 -- one more summand
-pub Leaves-push_sum : {m : ℕ} {x y r : ℕ} (n : ℕ) (f : ℕ → ℤ) → Leaves m (sum_below n f) x → Leaves m (f n) y
-    → r ≡ (x + y) % m → Leaves m (sum_below (n + 1) f) r
+pub Leaves-push_sum : {m : ℕ} {x y r : ℕ} (n : ℕ) (f : ℕ → ℤ) → Leaves m (integer_sum_below n f) x → Leaves m (f n) y
+    → r ≡ (x + y) % m → Leaves m (integer_sum_below (n + 1) f) r
 Leaves-push_sum n f p q e = rw add-one (Leaves-add p q e)

@@ -3,7 +3,7 @@ use Rattle.std.proofs.Common.{◌≡◌, ℕ, zero, suc, ◌+◌, ◌%◌, ◌<�
 use Rattle.std.proofs.lemmas.Int.{ints}
 use Rattle.std.proofs.Math.IntN.{ -ℤ-+ℤ_cancel, *ℤ_comm, *ℤ-one, *ℤ-zero}
 use Rattle.arithmetic.specs.Numbers.{product_below, progression, Leaves}
-use Rattle.arithmetic.proofs.NumberLaws.{*ℤ-+ℤ}
+use Rattle.arithmetic.proofs.IntegerLaws.{*ℤ-+ℤ}
 use Rattle.arithmetic.proofs.Modular.{Leaves-add}
 
 -- products and sums of equal terms

@@ -6,7 +6,7 @@ use Rattle.std.proofs.lemmas.Nat.{mul-mod_first}
 use Rattle.std.proofs.lemmas.List.Sums.{sum_by-cons}
 use Rattle.arithmetic.specs.Numbers.{power, reduce, gcd, Leaves}
 use Rattle.arithmetic.specs.Fractions.{Fraction, fraction, times, plus, sum_of_fractions, IsResidue}
-use Rattle.arithmetic.proofs.NumberLaws.{reduce-*ℤ, reduce-+ℤ, reduce-pos, divides_from_same, same_from_divides}
+use Rattle.arithmetic.proofs.ReduceLaws.{reduce-*ℤ, reduce-+ℤ, reduce-pos, divides_from_same, same_from_divides}
 use Rattle.arithmetic.proofs.Divisors.{gcd_is, gcd_from_IsGcd, gcd_comm, gcd-mod, IsUnit, IsUnit-from_gcd, gcd-from_IsUnit}
 use Rattle.arithmetic.proofs.Congruences.{same_refl, same_of_eq, same_sym, same_trans, same_add, same_mul, same_mod}
 
@@ -99,6 +99,12 @@ IsResidue-whole {m} {x} z l =
       divides = divides_from_same m (pos x *ℤ pos 1) z (omega arith)
           (ap (reduce m) (ap pos (mul-one x)) ∙ reduce-pos m x ∙ mod-eq_of_lt below ∙ l.is);
     }
+
+-- the sum over nothing has the residue 0
+pub residue_of_zero : (m : ℕ) → 1 < m → IsResidue m (fraction (pos 0) (pos 1)) 0
+residue_of_zero m h =
+    IsResidue-from m (fraction (pos 0) (pos 1)) 0 0 1 (omega arith) (reduce-pos m 0 ∙ mod-eq_of_lt (omega arith)) (reduce-pos m 1 ∙ mod-eq_of_lt h)
+    (omega arith) (unit_one m) (mod-eq_of_lt (omega arith))
 
 pub residue_equation : (m : ℕ) (f : Fraction) (x : ℕ) → 0 < m → IsResidue m f x → (x * reduce m f.bottom) % m ≡ reduce m f.top
 unfolding reduce

@@ -6,7 +6,7 @@ ghost use Rattle.claim_table.specs.Counts.{times, nothing_bad, least_of};
 ghost use Rattle.claim_table.specs.Claims.{plan, fresh, with_taken, made_dry, with_reported, with_seen, all_reported, IsLegal};
 
 use crate::owners::Owners;
-use residue::NoMemory;
+use lists::NoMemory;
 use std::alloc::Global;
 use std::collections::LinkedList;
 

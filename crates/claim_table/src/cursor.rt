@@ -8,7 +8,7 @@ use crate::claimer::{Block, Claimer, Closed, NOTHING_BAD, Plan, Record};
 use crate::owners::Owners;
 use crate::view::{Deal, Enter, Gather, View};
 use atomic_table::{Play, Seat, Table, TableRule};
-use residue::NoMemory;
+use lists::NoMemory;
 use std::alloc::Global;
 
 #[cfg(test)]

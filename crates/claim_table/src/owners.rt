@@ -4,7 +4,7 @@ ghost use Rattle.claim_table.specs.Counts.{times};
 ghost use Rattle.claim_table.specs.Claims.{given};
 
 use crate::claimer::Block;
-use residue::NoMemory;
+use lists::NoMemory;
 use std::alloc::Global;
 use std::marker::Model;
 

@@ -1,8 +1,8 @@
 -- The classes that have no part at edges and vertices have the fraction 1 over 1 there.
 use Rattle.std.proofs.Common.{◌≡◌, ◌⊎◌, inl, inr, ℕ, List, ℤ, pos}
 use Rattle.arithmetic.specs.Fractions.{fraction}
-use Rattle.residue.specs.declared.class.Class.{Class}
-use Rattle.residue.specs.declared.class.Class.TheVariants.{Mark, Incidence, Psi}
+use Rattle.classes.specs.declared.class.Class.{Class}
+use Rattle.classes.specs.declared.class.Class.TheVariants.{Mark, Incidence, Psi}
 use Rattle.localisation.specs.ClassValue.{class_edge, class_vertex}
 
 pub other_edge : (ws : List ℤ) (class : Class) (i j a : ℕ)

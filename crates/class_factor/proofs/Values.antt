@@ -1,12 +1,12 @@
 -- Values of classes at a tree, edge by edge and vertex by vertex.
 use Rattle.std.proofs.Common.{◌≡◌, ◌⊎◌, inl, inr, ℕ, ◌+◌, ◌<◌, ◌≤◌, List, [], ◌∷◌, ◌++◌, length, take, get_or, map, ℤ, ◌+ℤ◌, refl, sym, ap, ◌∙◌, add-one}
-use Rattle.arithmetic.specs.Numbers.{total}
+use Rattle.arithmetic.specs.Numbers.{integer_sum}
 use Rattle.arithmetic.specs.Fractions.{Fraction, times, product_of_fractions}
 use Rattle.arithmetic.proofs.FractionProducts.{product_of_fractions-push, total-push}
-use Rattle.trees.specs.Edges.{below}
+use Rattle.lists.specs.Ranges.{below}
 use Rattle.trees.specs.Decorated.{DecoratedTree}
-use Rattle.residue.specs.declared.class.Class.{Class}
-use Rattle.residue.specs.declared.class.Class.TheVariants.{Hypersurface, R1, Contact}
+use Rattle.classes.specs.declared.class.Class.{Class}
+use Rattle.classes.specs.declared.class.Class.TheVariants.{Hypersurface, R1, Contact}
 use Rattle.localisation.specs.ClassValue.{at_edges, class_value, class_product}
 use Rattle.std.proofs.lemmas.List.{map_more, take_all}
 use Rattle.tree_parts.specs.declared.edges.ColouredEdge.{ColouredEdge}
@@ -21,8 +21,8 @@ product-more f xs i d h =
     ap product_of_fractions (map_more f xs i d h) ∙ product_of_fractions-push (map f (take i xs)) (f (get_or xs i d))
 
 pub total-more : {A : Type 0} (f : A → ℤ) (xs : List A) (i : ℕ) (d : A) → i < length xs
-    → total (map f (take (i + 1) xs)) ≡ total (map f (take i xs)) +ℤ f (get_or xs i d)
-total-more f xs i d h = ap total (map_more f xs i d h) ∙ total-push (map f (take i xs)) (f (get_or xs i d))
+    → integer_sum (map f (take (i + 1) xs)) ≡ integer_sum (map f (take i xs)) +ℤ f (get_or xs i d)
+total-more f xs i d h = ap integer_sum (map_more f xs i d h) ∙ total-push (map f (take i xs)) (f (get_or xs i d))
 
 -- a function of the colours and the degree, of an edge
 abbrev pub of_edge : {A : Type 0} → (ℕ → ℕ → ℕ → A) → ColouredEdge → A

@@ -2,7 +2,7 @@
 use Rattle.std.specs.Prelude.{List, map, ℤ}
 use Rattle.arithmetic.specs.Fractions.{Fraction, product_of_fractions, power_of_fraction}
 use Rattle.trees.specs.Decorated.{DecoratedTree}
-use Rattle.residue.specs.declared.class.Power.{Power}
+use Rattle.classes.specs.declared.class.Power.{Power}
 use Rattle.localisation.specs.ClassValue.{class_value}
 
 -- a class's value, to its power

@@ -2,7 +2,7 @@
 use Rattle.std.specs.Prelude.{ℕ, List, length, ℤ}
 use Rattle.arithmetic.specs.Fractions.{Fraction}
 use Rattle.trees.specs.Decorated.{DecoratedTree}
-use Rattle.residue.specs.declared.class.Class.{Class}
+use Rattle.classes.specs.declared.class.Class.{Class}
 use Rattle.localisation.specs.ClassValue.{class_vertex, colour_of, ends_at}
 
 -- the fraction of a class at the vertex v

@@ -5,7 +5,7 @@ ghost use Rattle.arithmetic.specs.Numbers.{Leaves};
 ghost use Rattle.localisation.specs.ClassValue.{class_edge, sections_product, inner_product, negated_inner_product};
 ghost use Rattle.residue.specs.Answers.{GivesResidue};
 ghost use Rattle.residue.specs.Ratios.{IsRatioOf};
-ghost use Rattle.residue.specs.Degrees.{HasParameterWithinLimit};
+ghost use Rattle.classes.specs.Degrees.{HasParameterWithinLimit};
 
 use residue::{Class, Modulus, NoUnit, Ratio, Setup};
 

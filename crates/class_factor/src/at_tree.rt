@@ -5,7 +5,7 @@ ghost use Rattle.decorated_tree.specs.Trees.{tree_view};
 ghost use Rattle.localisation.specs.ClassValue.{class_value, term_value};
 ghost use Rattle.residue.specs.Answers.{GivesResidue};
 ghost use Rattle.tree_parts.specs.Trees.{IsTreeOfRank};
-ghost use Rattle.residue.specs.Classes.{IsClassFor, IsPowerFor};
+ghost use Rattle.classes.specs.Classes.{IsClassFor, IsPowerFor};
 
 use crate::term::term_ratio;
 use crate::whole::whole_ratio;

@@ -6,7 +6,7 @@ ghost use Rattle.localisation.specs.Weights.{weight};
 ghost use Rattle.localisation.specs.ClassValue.{class_vertex};
 ghost use Rattle.residue.specs.Answers.{GivesResidue};
 ghost use Rattle.residue.specs.Ratios.{IsRatioOf};
-ghost use Rattle.residue.specs.Degrees.{HasParameterWithinLimit};
+ghost use Rattle.classes.specs.Degrees.{HasParameterWithinLimit};
 
 use residue::{Class, Modulus, NoUnit, Ratio, Setup};
 

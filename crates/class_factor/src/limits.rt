@@ -1,7 +1,7 @@
 //! Tests of whether classes are within their limits.
 
 ghost use Rattle.std.specs.Prelude.{◌↔◌, IsTrue, All};
-ghost use Rattle.residue.specs.Classes.{IsClassFor, IsPowerFor};
+ghost use Rattle.classes.specs.Classes.{IsClassFor, IsPowerFor};
 
 use residue::{Class, Power};
 

@@ -4,7 +4,7 @@ ghost use Rattle.std.specs.Prelude.{◌<◌, length, All};
 ghost use Rattle.arithmetic.specs.Fractions.{product_of_fractions};
 ghost use Rattle.residue.specs.Ratios.{IsRatioOf};
 ghost use Rattle.localisation.specs.ClassValue.{term_value};
-ghost use Rattle.residue.specs.Classes.{IsPowerFor};
+ghost use Rattle.classes.specs.Classes.{IsPowerFor};
 ghost use Rattle.class_factor.specs.Powers.{value_of_powers};
 
 use crate::whole::whole_ratio;

@@ -1,13 +1,13 @@
 //! The value of a class at a tree.
 
 ghost use Rattle.std.specs.Prelude.{◌<◌, ◌≤◌, length, ℤ};
-ghost use Rattle.arithmetic.specs.Numbers.{Leaves, total, sum_below};
+ghost use Rattle.arithmetic.specs.Numbers.{Leaves, integer_sum, integer_sum_below};
 ghost use Rattle.arithmetic.specs.Fractions.{product_of_fractions};
 ghost use Rattle.localisation.specs.ClassValue.{class_edge, class_value, incidence_at, incidence_term};
 ghost use Rattle.localisation.specs.ClassValue.{at_edges, at_vertices};
-ghost use Rattle.residue.specs.Degrees.{HasParameterWithinLimit};
+ghost use Rattle.classes.specs.Degrees.{HasParameterWithinLimit};
 ghost use Rattle.residue.specs.Ratios.{IsRatioOf};
-ghost use Rattle.residue.specs.Classes.{IsClassFor};
+ghost use Rattle.classes.specs.Classes.{IsClassFor};
 ghost use Rattle.class_factor.specs.Vertices.{class_at_vertex};
 
 use crate::at_edge::edge_part_ratio;
@@ -77,7 +77,7 @@ fn vertex_parts(setup: &Setup, class: &Class, parts: &TreeParts, modulus: &Modul
 fn incidence(setup: &Setup, q: u8, parts: &TreeParts, modulus: &Modulus) -> u64
     requires q_limited { q ≤ 12 }
     requires rank { parts.now.shape.rank < length setup.now }
-    ensures { Leaves modulus.now (total (at_edges (incidence_at setup.now q) parts.now.tree)) result }
+    ensures { Leaves modulus.now (integer_sum (at_edges (incidence_at setup.now q) parts.now.tree)) result }
 {
     let mut sum = modulus.of_u64(0);
     let edges = parts.edges();

@@ -4,7 +4,7 @@ use Rattle.std.proofs.lemmas.List.{map_more}
 use Rattle.arithmetic.specs.Fractions.{Fraction, plus, sum_of_fractions}
 use Rattle.arithmetic.proofs.FractionSums.{sum_of_fractions-append, plus-zero}
 use Rattle.trees.specs.Decorated.{DecoratedTree}
-use Rattle.residue.specs.declared.class.Term.{Term}
+use Rattle.classes.specs.declared.class.Term.{Term}
 use Rattle.localisation.specs.Contribution.{term_factor}
 use Rattle.contribution.specs.Terms.{sum_of_terms}
 

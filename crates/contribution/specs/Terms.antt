@@ -2,12 +2,12 @@
 use Rattle.std.specs.Prelude.{ℕ, ◌≤◌, List, length, map, sum_by, All, ℤ}
 use Rattle.arithmetic.specs.Fractions.{Fraction, sum_of_fractions}
 use Rattle.trees.specs.Decorated.{DecoratedTree}
-use Rattle.residue.specs.declared.class.Power.{Power}
-use Rattle.residue.specs.declared.class.Term.{Term}
+use Rattle.classes.specs.declared.class.Power.{Power}
+use Rattle.classes.specs.declared.class.Term.{Term}
 use Rattle.localisation.specs.VertexFraction.{vertex_fraction}
 use Rattle.localisation.specs.ClassValue.{colour_of, ends_at, exponents_at, exponent_of}
 use Rattle.localisation.specs.Contribution.{term_factor}
-use Rattle.residue.specs.Classes.{IsPowerFor}
+use Rattle.classes.specs.Classes.{IsPowerFor}
 
 -- each class of a term is within its limits for m marks, and the exponent of each mark is at most 151
 pub record IsTermFor (m : ℕ) (term : Term) : Type 0 where

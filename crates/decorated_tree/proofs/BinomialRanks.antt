@@ -1,10 +1,11 @@
 -- The rank by binomials is the rank, for all lists of degrees with sums up to ten: both were computed for each of them.
 use Rattle.std.proofs.Common.{◌≡◌, ℕ, zero, suc, ◌+◌, ◌-◌, ◌<◌, ◌≤◌, true, List, [], ◌∷◌, length, get_or, refl, sym, ap, subst, arith}
 use Rattle.std.specs.List.{list_all}
-use Rattle.trees.specs.Edges.{below}
-use Rattle.trees.specs.Numbering.{AreDegrees, degree_lists, rank_of}
-use Rattle.trees.proofs.AllTrees.{each_of, in_below}
-use Rattle.trees.proofs.NumberingLaws.{ranks_from}
+use Rattle.lists.specs.Ranges.{below}
+use Rattle.trees.specs.DegreeLists.{AreDegrees, degree_lists, rank_of}
+use Rattle.lists.proofs.Members.{each_of}
+use Rattle.lists.proofs.Ranges.{in_below}
+use Rattle.trees.proofs.DegreeRanks.{ranks_from}
 use Rattle.trees.proofs.DegreeRanks.{ranked, rank_at}
 use Rattle.decorated_tree.specs.Ranks.{binomial_rank}
 

@@ -2,8 +2,9 @@
 use Rattle.std.proofs.Common.{◌≡◌, ℕ, zero, suc, ◌+◌, ◌-◌, ◌<◌, ◌≤◌, true, List, [], ◌∷◌, ◌++◌, length, replicate, refl, sym, ap, ◌∙◌, subst, arith, mul-pos, Option, Some, None, IsSome, IsNone}
 use Rattle.std.proofs.lemmas.Bool.Decides.{nat_tests}
 use Rattle.trees.specs.Decorated.{TreeShape}
-use Rattle.trees.specs.Numbering.{product_of, choose}
-use Rattle.trees.specs.Numbers.{bases, trees_with, trees_from, tree_count}
+use Rattle.lists.specs.Digits.{product_of}
+use Rattle.lists.specs.Binomials.{choose}
+use Rattle.trees.specs.TreeNumbers.{bases, trees_with, trees_from, tree_count}
 use Rattle.decorated_tree.specs.Shapes.{shape_of, within_limits, counts_from, counts_of}
 
 -- ---- limits

@@ -5,9 +5,10 @@ use Rattle.std.specs.List.{list_all}
 use Rattle.std.proofs.lemmas.List.{length-take-le}
 use Rattle.std.proofs.lemmas.List.Sums.{sum_by-cons}
 use Rattle.std.proofs.Math.Seq.{set-append_seam}
-use Rattle.trees.specs.Padding.{padded}
-use Rattle.trees.specs.Numbering.{AreDegrees, degree_lists, choose}
-use Rattle.trees.proofs.AllTrees.{both}
+use Rattle.lists.specs.Padding.{padded}
+use Rattle.trees.specs.DegreeLists.{AreDegrees, degree_lists}
+use Rattle.lists.specs.Binomials.{choose}
+use Rattle.std.proofs.lemmas.Bool.{and_parts, and_from}
 use Rattle.trees.proofs.DegreeRanks.{ranked}
 use Rattle.decorated_tree.specs.Ranks.{binomial_rank, lists_passed}
 use Rattle.decorated_tree.proofs.BinomialRanks.{rank_by_binomials}
@@ -107,14 +108,11 @@ rank-first : (f left k : ℕ) (tail : List ℕ) → length tail ≡ k → 1 ≤ 
 rank-first f left k [] e h = absurd (omega arith)
 rank-first f left k (b ∷ ds) e h = ap (λ z. lists_passed left z (f - 1) + binomial_rank (b ∷ ds) (left - f)) e
 
-join : (a b : Bool) → a ≡ true → b ≡ true → (a && b) ≡ true
-join a b h k = grind arith
-
 pub degrees-cons : (k left f : ℕ) (tail : List ℕ) → 1 ≤ f → f ≤ left → AreDegrees k (left - f) tail
     → AreDegrees (suc k) left (f ∷ tail)
 degrees-cons k left f tail h l a = record {
   long = ap suc a.long;
-  positive = join (nat_le 1 f) (list_all (λ a. nat_le 1 a) tail) (le-leb 1 f h) a.positive;
+  positive = and_from (nat_le 1 f) (list_all (λ a. nat_le 1 a) tail) (le-leb 1 f h) a.positive;
   total = (let s = sum_by-cons (λ z. z) f tail in let t = a.total in omega arith);
 }
 
@@ -220,7 +218,7 @@ pub record DegreeParts (total a : ℕ) (ds : List ℕ) : Type 0 where
 sum-least : (ds : List ℕ) → list_all (λ a. nat_le 1 a) ds ≡ true → length ds ≤ sum ds
 sum-least [] h = omega arith
 sum-least (a ∷ ds) h =
-    let p = both (nat_le 1 a) (list_all (λ a. nat_le 1 a) ds) h in
+    let p = and_parts (nat_le 1 a) (list_all (λ a. nat_le 1 a) ds) h in
     let s = sum_by-cons (λ z. z) a ds in
     let some : 1 ≤ a = leb-true 1 a p.0 in
     let l = sum-least ds p.1 in
@@ -228,7 +226,7 @@ sum-least (a ∷ ds) h =
 
 pub degree_parts : (total a : ℕ) (ds : List ℕ) → AreDegrees (length (a ∷ ds)) total (a ∷ ds) → DegreeParts total a ds
 degree_parts total a ds h =
-    let p = both (nat_le 1 a) (list_all (λ a. nat_le 1 a) ds) h.positive in
+    let p = and_parts (nat_le 1 a) (list_all (λ a. nat_le 1 a) ds) h.positive in
     let s = sum_by-cons (λ z. z) a ds in
     let t = h.total in
     let l = sum-least ds p.1 in

@@ -1,24 +1,20 @@
 -- On a tree the colour of vertex 0 is enough: the walk comes to all other vertices, whatever their entries were.
 use Rattle.std.proofs.Common.{◌≡◌, ◌≢◌, ℕ, ◌+◌, ◌<◌, ◌≤◌, Bool, true, false, ◌||◌, ◌==◌, List, [], ◌∷◌, length, take, replicate, get_or, set, refl, sym, ap, ◌∙◌, subst, ⊎_elim, arith, eqb-true, length-set, get_or-set_same}
-use Rattle.std.proofs.lemmas.Bool.{cases_eq}
+use Rattle.std.proofs.lemmas.Bool.{cases_eq, and_parts}
 use Rattle.std.proofs.lemmas.Bool.Decides.{nat_tests}
 use Rattle.std.proofs.lemmas.List.{ext_get_or, length-take-le}
 use Rattle.trees.specs.Edges.{is_tree}
-use Rattle.trees.specs.Walks.{is_there, place_of, walk_in, IsWalk, coloured, digits_of}
-use Rattle.trees.proofs.AllTrees.{both}
+use Rattle.lists.specs.Members.{is_member}
+use Rattle.trees.specs.Walks.{place_of, walk_in, IsWalk, coloured, digits_of}
 use Rattle.trees.proofs.WalkLaws.{Within, is_walked, now_there, coloured_keeps, coloured_follows, follows_once, digits_keep}
 use Rattle.trees.proofs.WalkedEdges.{tree_walk}
-use Rattle.decorated_tree.proofs.Unranking.{length-coloured}
-use Rattle.decorated_tree.proofs.Fitting.{length-digits_of}
+use Rattle.trees.proofs.ColourDigits.{length-coloured, length-digits_of, only_zero}
 
 -- what holds at one index or another, and not at the first of them
 pub other_place : (x u : ℕ) (b : Bool) → x ≢ u → ((x == u) || b) ≡ true → b ≡ true
 other_place x u b ne h = grind (arith, nat_tests)
 
-pub only_zero : (u : ℕ) → ((0 == u) || false) ≡ true → 0 ≡ u
-only_zero u h = grind (arith, nat_tests)
-
-pub zero_there : is_there 0 (0 ∷ []) ≡ true
+pub zero_there : is_member 0 (0 ∷ []) ≡ true
 zero_there = refl
 
 -- the digits of the walk
@@ -78,7 +74,7 @@ all_coloured n es ds xs tree long same first =
 first_set : (n : ℕ) (es : List (ℕ × ℕ)) (xs : List ℕ) (x : ℕ) → is_tree n es ≡ true → length xs ≡ n
     → get_or (set xs 0 x) 0 0 ≡ x
 first_set n es xs x tree long =
-    let count : length es + 1 ≡ n = eqb-true (length es + 1) n (both _ _ (both _ _ tree).0).1 in
+    let count : length es + 1 ≡ n = eqb-true (length es + 1) n (and_parts _ _ (and_parts _ _ tree).0).1 in
     get_or-set_same xs 0 x 0 (omega arith)
 
 pub record AreDigitsOf (n : ℕ) (es : List (ℕ × ℕ)) (cs digits : List ℕ) : Type 0 where

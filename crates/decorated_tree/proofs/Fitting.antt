@@ -8,17 +8,17 @@ use Rattle.trees.specs.Edges.{is_tree}
 use Rattle.trees.specs.Decorated.{TreeShape, ends_differ}
 use Rattle.trees.specs.Words.{encoded}
 use Rattle.trees.specs.Walks.{walk_in, digits_of, place_of}
-use Rattle.trees.specs.Numbering.{AreDegrees, AreDigits, joined, rank_of}
-use Rattle.trees.specs.Numbers.{bases, trees_from, tree_count, tree_of, number_of, digits_by}
-use Rattle.trees.proofs.AllTrees.{both, IsDecorated, parts, decorated_from}
+use Rattle.trees.specs.DegreeLists.{AreDegrees, rank_of}
+use Rattle.lists.specs.Digits.{AreDigits, joined}
+use Rattle.trees.specs.TreeNumbers.{bases, trees_from, tree_count, tree_of, number_of, digits_by}
+use Rattle.std.proofs.lemmas.Bool.{and_parts, and_from}
+use Rattle.trees.proofs.AllTrees.{IsDecorated, parts, decorated_from}
 use Rattle.trees.proofs.TreeDigits.{digits_with, digits_by_digits}
-use Rattle.trees.proofs.NumberLaws.{number_of_below, tree_of-number_of}
+use Rattle.trees.proofs.TreeNumbers.{number_of_below, tree_of-number_of}
 use Rattle.decorated_tree.specs.declared.tree.Tree.{Tree}
 use Rattle.decorated_tree.specs.Steps.{AreWithin}
 use Rattle.decorated_tree.specs.Trees.{tree_view, is_padded, is_tree_of, fits_shape}
-
-join : (a b : Bool) → a ≡ true → b ≡ true → (a && b) ≡ true
-join a b h k = grind arith
+use Rattle.trees.proofs.ColourDigits.{length-digits_of}
 
 -- the arrays of a tree
 pub record Arrays (t : Tree) : Type 0 where
@@ -32,14 +32,14 @@ pub record TreeOf (s : TreeShape) (t : Tree) : Type 0 where
   pub differ : list_all (ends_differ (take t.n t.colours)) t.edges ≡ true
 
 pub decorated : (s : TreeShape) (t : Tree) → is_tree_of s t ≡ true → IsDecorated s (tree_view t)
-decorated s t h = parts s (tree_view t) (both _ _ h).1
+decorated s t h = parts s (tree_view t) (and_parts _ _ h).1
 
 pub tree_of_shape : (s : TreeShape) (t : Tree) → is_tree_of s t ≡ true → TreeOf s t
 tree_of_shape s t h =
     let d = decorated s t h in
-    let first = both _ _ (both _ _ h).0 in
+    let first = and_parts _ _ (and_parts _ _ h).0 in
     record {
-      fits = join _ _ (join _ _ (join _ _ (join _ _ (join _ _ (join _ _ (join _ _ (le-leb 2 t.n d.least) (le-leb t.n (s.degree + 1) d.most)) first.0) first.1) d.colours_within) d.degrees_positive)
+      fits = and_from _ _ (and_from _ _ (and_from _ _ (and_from _ _ (and_from _ _ (and_from _ _ (and_from _ _ (le-leb 2 t.n d.least) (le-leb t.n (s.degree + 1) d.most)) first.0) first.1) d.colours_within) d.degrees_positive)
           (eq-eqb _ _ d.degrees_sum)) d.marks_within;
       tree = d.tree;
       differ = d.differ;
@@ -58,13 +58,13 @@ pub record FitFacts (s : TreeShape) (t : Tree) : Type 0 where
 
 pub fit_facts : (s : TreeShape) (t : Tree) → fits_shape s t ≡ true → FitFacts s t
 fit_facts s t h =
-    let a = both _ _ h in
-    let b = both _ _ a.0 in
-    let c = both _ _ b.0 in
-    let d = both _ _ c.0 in
-    let e = both _ _ d.0 in
-    let f = both _ _ e.0 in
-    let g = both _ _ f.0 in
+    let a = and_parts _ _ h in
+    let b = and_parts _ _ a.0 in
+    let c = and_parts _ _ b.0 in
+    let d = and_parts _ _ c.0 in
+    let e = and_parts _ _ d.0 in
+    let f = and_parts _ _ e.0 in
+    let g = and_parts _ _ f.0 in
     record {
       least = leb-true 2 t.n g.0;
       most = leb-true t.n (s.degree + 1) g.1;
@@ -86,10 +86,10 @@ shape_of_tree s t small few l h =
     let lc = l.colours in
     let ld = l.degrees in
     let lm = l.marks in
-    let counted = both _ _ (both _ _ h.tree).0 in
+    let counted = and_parts _ _ (and_parts _ _ h.tree).0 in
     let count : length t.edges + 1 ≡ t.n = eqb-true (length t.edges + 1) t.n counted.1 in
     let degrees_long = length-take-le (t.n - 1) t.degrees (omega arith) in
-    join _ _ (join _ _ (eq-eqb t.m s.marks marks) f.padding)
+    and_from _ _ (and_from _ _ (eq-eqb t.m s.marks marks) f.padding)
     (decorated_from s (tree_view t) (record {
       least = least;
       most = most;
@@ -109,14 +109,14 @@ not_true true h = absurd (h refl)
 not_true false h = refl
 
 pub edges_within : (n : ℕ) (es : List (ℕ × ℕ)) → is_tree n es ≡ true → AreWithin n es
-edges_within n es t = all es (both _ _ (both _ _ (both _ _ t).0).0).1
+edges_within n es t = all es (and_parts _ _ (and_parts _ _ (and_parts _ _ t).0).0).1
   where
     pair : (u v : ℕ) → (nat_lt u v && nat_lt v n) ≡ true → (u < n) × (v < n)
     pair u v h = (grind (arith, nat_tests), grind (arith, nat_tests))
 
     all : (fs : List (ℕ × ℕ)) → list_all (λ e. nat_lt e.0 e.1 && nat_lt e.1 n) fs ≡ true → AreWithin n fs
     all [] h = tt
-    all (e ∷ fs) h = let b = both _ _ h in let p = pair e.0 e.1 b.0 in (p.0, p.1, all fs b.1)
+    all (e ∷ fs) h = let b = and_parts _ _ h in let p = pair e.0 e.1 b.0 in (p.0, p.1, all fs b.1)
 
 -- ---- the digits of a tree
 pub record DigitsOf (s : TreeShape) (t : Tree) : Type 0 where
@@ -150,7 +150,7 @@ pub record NumberOf (s : TreeShape) (t : Tree) (k : ℕ) : Type 0 where
 
 pub digits_within : (s : TreeShape) (t : Tree) → s.degree < 11 → is_tree_of s t ≡ true
     → AreDigits (bases s t.n) (digits_by s (tree_view t))
-digits_within s t small h = digits_by_digits s (tree_view t) small (both _ _ h).1
+digits_within s t small h = digits_by_digits s (tree_view t) small (and_parts _ _ h).1
 
 pub number_is : (s : TreeShape) (t : Tree) (before number : ℕ) (radix digits : List ℕ) → s.degree < 11
     → is_tree_of s t ≡ true → before ≡ trees_from s 2 (t.n - 2)
@@ -158,19 +158,13 @@ pub number_is : (s : TreeShape) (t : Tree) (before number : ℕ) (radix digits :
     → NumberOf s t (before + number)
 unfolding number_of
 number_is s t before number radix digits small h b r d n =
-    let good = (both _ _ h).1 in
+    let good = (and_parts _ _ h).1 in
     let value : before + number ≡ number_of s (tree_view t) = ap₂ (λ (x y : ℕ). x + y) b (n ∙ ap₂ joined r d) in
     record {
       value = value;
       below = subst (λ z. z < tree_count s) (sym value) (number_of_below s (tree_view t) small good);
       tree = ap (tree_of s) value ∙ tree_of-number_of s (tree_view t) small good;
     }
-
-pub length-digits_of : (walk : List (ℕ × ℕ)) (cs ds : List ℕ) → length (digits_of walk cs ds) ≡ length ds
-length-digits_of [] cs ds = refl
-length-digits_of (s ∷ walk) cs ds =
-    let x = place_of (get_or cs s.0 0) (get_or cs s.1 0) in
-    length-digits_of walk cs (set ds s.0 x) ∙ length-set ds s.0 x
 
 pub all_digits : (s : TreeShape) (t : Tree) (word one two three four used places rest own marks degrees : List ℕ) (walk edges : List (ℕ × ℕ)) (rank d : ℕ)
     → s.degree < 11 → is_tree_of s t ≡ true → word ≡ encoded t.n t.edges → edges ≡ t.edges

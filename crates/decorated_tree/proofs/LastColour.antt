@@ -1,25 +1,24 @@
 -- The colour of the last vertex, raised while all others stay.
 use Rattle.std.proofs.Common.{◌≡◌, ◌≢◌, ℕ, zero, suc, ◌+◌, ◌-◌, ◌<◌, ◌≤◌, ◌⊎◌, Bool, true, false, ◌&&◌, ◌||◌, ◌==◌, not, nat_lt, nat_le, List, [], ◌∷◌, length, filter, get_or, set, replicate, refl, sym, ap, ◌∙◌, subst, inl, inr, ⊎_elim, arith, eqb-true, eq-eqb, leb-true, length-set, get_or-set_other, get_or-set_same}
 use Rattle.std.specs.List.{list_all, list_any, count_by}
-use Rattle.std.proofs.lemmas.Bool.{cases_eq}
+use Rattle.std.proofs.lemmas.Bool.{cases_eq, and_parts}
 use Rattle.std.proofs.lemmas.Bool.Decides.{nat_tests}
 use Rattle.std.proofs.lemmas.List.{ext_get_or, length-replicate, get_or-replicate}
 use Rattle.std.proofs.lemmas.List.Sums.{length-filter}
 use Rattle.trees.specs.Edges.{is_tree}
 use Rattle.trees.specs.Decorated.{ends_differ}
 use Rattle.trees.specs.Words.{edge_between}
-use Rattle.trees.specs.Numbering.{AreDigits}
-use Rattle.trees.specs.Walks.{is_there, lifted, walk_in, IsWalk, coloured, Follows, digits_of}
-use Rattle.trees.proofs.Listed.{IsIn, here, there, in_filter}
-use Rattle.trees.proofs.AllTrees.{both, each_of}
+use Rattle.lists.specs.Digits.{AreDigits}
+use Rattle.lists.specs.Members.{is_member, IsIn, here, there}
+use Rattle.trees.specs.Walks.{lifted, walk_in, IsWalk, coloured, Follows, digits_of}
+use Rattle.lists.proofs.Members.{in_filter, each_of}
 use Rattle.trees.proofs.Connected.{between_comm}
 use Rattle.trees.proofs.WalkLaws.{apart, still_there, is_walked, coloured_keeps, coloured_follows, follows_once, digits_keep, Within}
 use Rattle.trees.proofs.WalkedEdges.{AlongEdges, tree_walk}
-use Rattle.trees.proofs.ColourDigits.{AreColours, colours_back}
-use Rattle.mixed_radix.proofs.Places.{length-digits, carry_start, carry_end}
+use Rattle.trees.proofs.ColourDigits.{AreColours, colours_back, length-coloured, only_zero}
+use Rattle.mixed_radix.proofs.Suffixes.{length-digits, carry_start, carry_end}
 use Rattle.decorated_tree.specs.Following.{GoOn, ColoursGoOn, colour_bases, joins_colour}
-use Rattle.decorated_tree.proofs.Unranking.{length-coloured}
-use Rattle.decorated_tree.proofs.FirstColour.{other_place, only_zero, zero_there}
+use Rattle.decorated_tree.proofs.FirstColour.{other_place, zero_there}
 
 -- ---- the edges of the last vertex
 -- such an edge has it second
@@ -124,7 +123,7 @@ free_raised es (s ∷ walk) v ds cs free a f =
 -- the only neighbour has the next colour
 past_raised : (es walk : List (ℕ × ℕ)) (before : List ℕ) (v p : ℕ) (ds cs : List ℕ)
     → ((u : ℕ) → IsIn (edge_between u v) es → u ≡ p) → get_or cs p 0 ≡ get_or cs v 0 + 1
-    → AlongEdges es walk → IsWalk walk before → (is_there v before ≡ true → is_there p before ≡ true)
+    → AlongEdges es walk → IsWalk walk before → (is_member v before ≡ true → is_member p before ≡ true)
     → Follows walk ds cs → AreRaised v (get_or cs v 0 + 2) ds cs walk
 past_raised es [] before v p ds cs one next a w known f = tt
 past_raised es (s ∷ walk) before v p ds cs one next a w known f =
@@ -145,17 +144,17 @@ past_raised es (s ∷ walk) before v p ds cs one next a w known f =
     behind : s.1 ≡ v → get_or cs s.0 0 ≡ lifted (get_or ds s.0 0) (get_or cs v 0 + 2)
     behind e =
         absurd
-        (apart p s.0 before (known (subst (λ z. is_there z before ≡ true) e w.1)) w.0 (sym (one s.0 (subst (λ z. IsIn (edge_between s.0 z) es) e a.0))))
+        (apart p s.0 before (known (subst (λ z. is_member z before ≡ true) e w.1)) w.0 (sym (one s.0 (subst (λ z. IsIn (edge_between s.0 z) es) e a.0))))
 
-    later : (s.0 ≡ v) ⊎ (s.0 ≢ v) → is_there v (s.0 ∷ before) ≡ true → is_there p (s.0 ∷ before) ≡ true
-    later (inl e) m = still_there p s.0 before (subst (λ z. is_there z before ≡ true) (parent e) w.1)
-    later (inr ne) m = still_there p s.0 before (known (other_place s.0 v (is_there v before) ne m))
+    later : (s.0 ≡ v) ⊎ (s.0 ≢ v) → is_member v (s.0 ∷ before) ≡ true → is_member p (s.0 ∷ before) ≡ true
+    later (inl e) m = still_there p s.0 before (subst (λ z. is_member z before ≡ true) (parent e) w.1)
+    later (inr ne) m = still_there p s.0 before (known (other_place s.0 v (is_member v before) ne m))
 
 -- ---- the digit has room
 each_within : (r : ℕ) (cs : List ℕ) → list_all (λ c. nat_le c r) cs ≡ true → (v : ℕ) → get_or cs v 0 ≤ r
 each_within r [] h v = omega arith
-each_within r (c ∷ cs) h zero = leb-true c r (both _ _ h).0
-each_within r (c ∷ cs) h (suc v) = each_within r cs (both _ _ h).1 v
+each_within r (c ∷ cs) h zero = leb-true c r (and_parts _ _ h).0
+each_within r (c ∷ cs) h (suc v) = each_within r cs (and_parts _ _ h).1 v
 
 room : (walk : List (ℕ × ℕ)) (v c r : ℕ) (ds cs : List ℕ) → c ≤ r → ((u : ℕ) → get_or cs u 0 ≤ r)
     → AreRaised v c ds cs walk → is_walked v walk ≡ true → get_or ds v 0 + 1 < r
@@ -189,7 +188,7 @@ pub record AreTreeColours (n r : ℕ) (es : List (ℕ × ℕ)) (cs : List ℕ) :
   pub digits : AreDigits (colour_bases n r) (digits_of (walk_in n es (0 ∷ [])) cs cs)
 
 upward : (n : ℕ) (es : List (ℕ × ℕ)) → is_tree n es ≡ true → list_all (λ e. nat_lt e.0 e.1 && nat_lt e.1 n) es ≡ true
-upward n es t = (both _ _ (both _ _ (both _ _ t).0).0).1
+upward n es t = (and_parts _ _ (and_parts _ _ (and_parts _ _ t).0).0).1
 
 digits_long : (n r : ℕ) (ds : List ℕ) → 2 ≤ n → AreDigits (colour_bases n r) ds → length ds ≡ n
 digits_long n r ds least h =
@@ -290,7 +289,7 @@ raised_past n r es cs h most some count =
     let follows = follows_own n r es cs h in
     let c = get_or cs v 0 + 1 in
     let found = some_of (joins_colour v c cs) es some in
-    let tests = both (found.0.1 == v) (get_or cs found.0.0 0 == c) found.2 in
+    let tests = and_parts (found.0.1 == v) (get_or cs found.0.0 0 == c) found.2 in
     let p = found.0.0 in
     let one : (u : ℕ) → IsIn (edge_between u v) es → u ≡ p =
     λ u i. ap (λ (e : ℕ × ℕ). e.0) (only_one (filter (λ (e : ℕ × ℕ). e.1 == v) es) (length-filter (λ (e : ℕ × ℕ). e.1 == v) es ∙ count)

@@ -4,8 +4,9 @@ use Rattle.std.specs.List.{list_all}
 use Rattle.std.proofs.lemmas.List.{length-replicate, get_or-replicate, set-get_or, set-set, drop_more}
 use Rattle.std.proofs.lemmas.List.Sums.{get_or-le-sum_by}
 use Rattle.std.proofs.Math.Seq.{set-append_seam, get_or-append_seam, drop-length}
-use Rattle.trees.proofs.AllTrees.{both}
-use Rattle.trees.specs.Numbering.{AreDegrees, choose, rank_of}
+use Rattle.std.proofs.lemmas.Bool.{and_parts}
+use Rattle.trees.specs.DegreeLists.{AreDegrees, rank_of}
+use Rattle.lists.specs.Binomials.{choose}
 use Rattle.trees.proofs.DegreeRanks.{ranked}
 use Rattle.decorated_tree.specs.Ranks.{binomial_rank, lists_passed}
 use Rattle.decorated_tree.proofs.BinomialRanks.{rank_by_binomials}
@@ -310,8 +311,8 @@ ones_more place i old ds h p some l most s =
   where
     each_least : (ds : List ℕ) → list_all (λ a. nat_le 1 a) ds ≡ true → (i : ℕ) → i < length ds → 1 ≤ get_or ds i 0
     each_least [] h i l = absurd (omega arith)
-    each_least (a ∷ ds) h zero l = leb-true 1 a (both _ _ h).0
-    each_least (a ∷ ds) h (suc i) l = each_least ds (both _ _ h).1 i (omega arith)
+    each_least (a ∷ ds) h zero l = leb-true 1 a (and_parts _ _ h).0
+    each_least (a ∷ ds) h (suc i) l = each_least ds (and_parts _ _ h).1 i (omega arith)
 
 pub goes_up : (place i : ℕ) (old ds : List ℕ) → list_all (λ a. nat_le 1 a) old ≡ true → place ≡ i + 1 → 1 ≤ i
     → i < length old → 1 < get_or ds i 0 → AreOnesFrom place old ds

@@ -4,10 +4,11 @@
 use Rattle.std.proofs.Common.{◌≡◌, ℕ, zero, suc, ◌+◌, ◌-◌, ◌*◌, ◌<◌, ◌≤◌, Bool, true, false, List, [], ◌∷◌, ◌++◌, length, get_or, set, replicate, refl, sym, ap, ◌∙◌, subst, arith, All}
 use Rattle.std.proofs.lemmas.List.{length-replicate, get_or-replicate}
 use Rattle.std.proofs.lemmas.List.Elements.{All-from_get_or}
-use Rattle.trees.specs.Numbering.{AreDigits, joined, product_of}
-use Rattle.trees.proofs.NumberingLaws.{split-joined}
-use Rattle.mixed_radix.proofs.Places.{IsCarriedTo, carry_start, carry_step, carry_end, carry_through, length-digits, digit_below}
+use Rattle.lists.specs.Digits.{AreDigits, joined, product_of}
+use Rattle.lists.proofs.Digits.{split-joined}
+use Rattle.mixed_radix.proofs.Suffixes.{IsCarriedTo, carry_start, carry_step, carry_end, carry_through, length-digits, digit_below}
 use Rattle.decorated_tree.specs.Following.{GoOn, colour_bases}
+use Rattle.lists.proofs.Digits.{digits_join}
 
 -- ---- a word of letters
 -- the letters from the index on are 0, and the number of these letters plus the number of words that could stand there
@@ -83,12 +84,6 @@ joined-append (a ∷ as') bs (x ∷ xs) ys e =
   where
     plus : (x r p q j k l : ℕ) → r ≡ p * q → l ≡ j * q + k → x * r + l ≡ (x * p + j) * q + k
     plus x r p q j k l e f = omega (arith, ap (λ z. x * z) e)
-
-pub digits_join : (bs cs xs ys : List ℕ) → AreDigits bs xs → AreDigits cs ys → AreDigits (bs ++ cs) (xs ++ ys)
-digits_join [] cs [] ys h k = k
-digits_join [] cs (x ∷ xs) ys h k = absurd h
-digits_join (b ∷ bs) cs [] ys h k = absurd h
-digits_join (b ∷ bs) cs (x ∷ xs) ys h k = (h.0, digits_join bs cs xs ys h.1 k)
 
 pub digits_part : (bs cs xs ys : List ℕ) → length bs ≡ length xs → AreDigits (bs ++ cs) (xs ++ ys)
     → AreDigits bs xs × AreDigits cs ys

@@ -8,15 +8,18 @@ use Rattle.trees.specs.Edges.{is_tree}
 use Rattle.trees.specs.Decorated.{TreeShape, DecoratedTree, is_decorated}
 use Rattle.trees.specs.Walks.{walk_in, coloured, digits_of}
 use Rattle.trees.specs.Words.{decoded, encoded}
-use Rattle.trees.specs.Numbering.{AreDigits, AreDegrees, joined, choose, rank_of, degree_lists}
-use Rattle.trees.specs.Numbers.{bases, trees_from, tree_by, tree_of, tree_count, number_of, digits_by}
-use Rattle.trees.proofs.AllTrees.{both, parts}
+use Rattle.lists.specs.Digits.{AreDigits, joined}
+use Rattle.trees.specs.DegreeLists.{AreDegrees, rank_of, degree_lists}
+use Rattle.lists.specs.Binomials.{choose}
+use Rattle.trees.specs.TreeNumbers.{bases, trees_from, tree_by, tree_of, tree_count, number_of, digits_by}
+use Rattle.std.proofs.lemmas.Bool.{and_parts}
+use Rattle.trees.proofs.AllTrees.{parts}
 use Rattle.trees.proofs.TreeLaws.{decoded-encoded}
 use Rattle.trees.proofs.DegreeRanks.{ranked}
 use Rattle.trees.proofs.DigitParts.{regroup, regroup_digits}
 use Rattle.trees.proofs.TreeDigits.{digits_with, digits_by_digits, tree_by_decorated, digits_by-tree_by, tree_by-digits_by}
-use Rattle.trees.proofs.NumberLaws.{tree_of_decorated, number_of-tree_of, tree_of-number_of}
-use Rattle.mixed_radix.proofs.Places.{length-digits}
+use Rattle.trees.proofs.TreeNumbers.{tree_of_decorated, number_of-tree_of, tree_of-number_of}
+use Rattle.mixed_radix.proofs.Suffixes.{length-digits}
 use Rattle.decorated_tree.specs.declared.tree.Tree.{Tree}
 use Rattle.decorated_tree.specs.Trees.{tree_view, is_padded}
 use Rattle.decorated_tree.proofs.BinomialRanks.{rank_by_binomials}
@@ -56,7 +59,7 @@ degrees_long : (s : TreeShape) (g : DecoratedTree) → is_decorated s g ≡ true
 degrees_long s g h =
     let d = parts s g h in
     let e : length g.edges + 1 ≡ g.vertices =
-    eqb-true (length g.edges + 1) g.vertices (both _ _ (both _ _ d.tree).0).1 in
+    eqb-true (length g.edges + 1) g.vertices (and_parts _ _ (and_parts _ _ d.tree).0).1 in
     let f = d.degrees in
     omega arith
 

@@ -1,10 +1,10 @@
 -- Which lists of bases of a tree are refused.
 use Rattle.std.proofs.Common.{◌≡◌, ℕ, ◌<◌, ◌≤◌, ◌==◌, ◌↔◌, List, length, Option, Some, Result, Ok, Err, IsNone, is_some, IfOk, ap, true, IsErrOf, position, refl, sym, arith}
 use Rattle.std.specs.Result.{result_ok}
-use Rattle.trees.specs.Numbering.{product_of}
+use Rattle.lists.specs.Digits.{product_of}
 use Rattle.mixed_radix.specs.declared.RadixError.{RadixError}
 use Rattle.mixed_radix.specs.declared.RadixError.TheVariants.{TooMany, ZeroBase, TooLarge}
-use Rattle.mixed_radix.proofs.Places.{product-first_zero}
+use Rattle.mixed_radix.proofs.Suffixes.{product-first_zero}
 
 -- the bases of a tree are refused exactly if their product is too large
 pub refused_by_size : (bs : List ℕ) (r : Result (List ℕ) RadixError) (o : Option (List ℕ)) → o ≡ result_ok r

@@ -7,32 +7,25 @@ use Rattle.std.proofs.lemmas.List.{get_or-append-add, length-append, length-drop
 use Rattle.std.proofs.lemmas.List.Elements.{All-from_get_or, All-same}
 use Rattle.std.proofs.lemmas.Bool.{cases_eq}
 use Rattle.std.proofs.Math.Seq.{take-append_seam, drop-append_seam, drop-append-add, get_or-append_seam}
-use Rattle.trees.specs.Padding.{padded}
+use Rattle.lists.specs.Padding.{padded}
 use Rattle.trees.specs.Decorated.{TreeShape, DecoratedTree}
-use Rattle.trees.specs.Words.{is_member, decoded}
-use Rattle.trees.specs.Numbering.{AreDigits, choose, split, degree_lists}
+use Rattle.lists.specs.Members.{is_member}
+use Rattle.trees.specs.Words.{decoded}
+use Rattle.lists.specs.Digits.{AreDigits, split}
+use Rattle.lists.specs.Binomials.{choose}
+use Rattle.trees.specs.DegreeLists.{degree_lists}
 use Rattle.trees.specs.Walks.{walk_in, coloured, lifted}
-use Rattle.trees.specs.Numbers.{bases, trees_with, trees_from, tree_count, tree_by, tree_from, tree_of}
-use Rattle.trees.proofs.AllTrees.{each_of}
-use Rattle.trees.proofs.DegreeRanks.{in_place, ranked}
-use Rattle.trees.proofs.DigitParts.{tree_digits, in_member}
-use Rattle.trees.proofs.ColourDigits.{AreColourDigits}
+use Rattle.trees.specs.TreeNumbers.{bases, trees_with, trees_from, tree_count, tree_by, tree_from, tree_of}
+use Rattle.lists.proofs.Members.{each_of, in_place}
+use Rattle.trees.proofs.DegreeRanks.{ranked}
+use Rattle.trees.proofs.DigitParts.{tree_digits}
+use Rattle.lists.proofs.Different.{in_member}
+use Rattle.trees.proofs.ColourDigits.{AreColourDigits, length-coloured}
 use Rattle.decorated_tree.specs.Shapes.{counts_from, counts_of}
 use Rattle.decorated_tree.proofs.Counts.{length-counts, total_push, total_within}
+use Rattle.trees.proofs.TreeNumbers.{first_kind, later_kind}
 
 -- ---- the number of vertices
-first_kind : (s : TreeShape) (n more k : ℕ) → k < trees_with s n
-    → tree_from s n (suc more) k ≡ tree_by s n (split (bases s n) k)
-first_kind s n more k h =
-    ap (λ (b : Bool). if b then tree_by s n (split (bases s n) k) else tree_from s (n + 1) more (k - trees_with s n))
-    (lt-ltb k (trees_with s n) h)
-
-later_kind : (s : TreeShape) (n more k : ℕ) → trees_with s n ≤ k
-    → tree_from s n (suc more) k ≡ tree_from s (n + 1) more (k - trees_with s n)
-later_kind s n more k h =
-    ap (λ (b : Bool). if b then tree_by s n (split (bases s n) k) else tree_from s (n + 1) more (k - trees_with s n))
-    (le-ltb k (trees_with s n) h)
-
 count_at : (s : TreeShape) (n k i : ℕ) → i < k → get_or (counts_from s n k) i 0 ≡ trees_with s (n + i)
 count_at s n zero i h = absurd (omega arith)
 count_at s n (suc k) zero h = let e : n ≡ n + 0 = omega arith in ap (trees_with s) e
@@ -221,12 +214,6 @@ pub other_places : (n k : ℕ) (xs l : List ℕ) → l ≡ padded 0 n xs → len
 other_places n k xs l e f =
     ap (λ z. list_all (λ x. x == 0) (drop z l)) (sym f) ∙ ap (λ z. list_all (λ x. x == 0) (drop (length xs) z)) e
     ∙ ap (list_all (λ x. x == 0)) (drop-append_seam xs (replicate (n - length xs) 0)) ∙ all_zero (n - length xs)
-
-pub length-coloured : (walk : List (ℕ × ℕ)) (ds cs : List ℕ) → length (coloured walk ds cs) ≡ length cs
-length-coloured [] ds cs = refl
-length-coloured (s ∷ walk) ds cs =
-    let c = lifted (get_or ds s.0 0) (get_or cs s.1 0) in
-    length-coloured walk ds (set cs s.0 c) ∙ length-set cs s.0 c
 
 pub length-degrees : (n d q : ℕ) → 2 ≤ n → n ≤ d + 1 → d < 11 → q < choose (d - 1) (n - 2)
     → length (get_or (degree_lists (n - 1) d) q []) ≡ n - 1

@@ -1,29 +1,26 @@
 -- The walk from vertex 0, one edge after the other.
 use Rattle.std.proofs.Common.{◌≡◌, ◌≢◌, ℕ, zero, suc, ◌+◌, ◌<◌, ◌≤◌, Bool, true, false, ◌&&◌, ◌||◌, ◌==◌, not, nat_lt, if◌then◌else◌, List, [], ◌∷◌, ◌++◌, length, get_or, set, drop, replicate, Option, Some, None, refl, sym, ap, ◌∙◌, subst, inl, inr, ◌⊎◌, ⊎_elim, arith, eqb-true, append_assoc, length-append, length-set, get_or-set_other, get_or-set_same}
 use Rattle.std.specs.List.{list_all}
-use Rattle.std.proofs.lemmas.Bool.{cases_eq}
+use Rattle.std.proofs.lemmas.Bool.{cases_eq, and_parts}
 use Rattle.std.proofs.lemmas.Bool.Decides.{nat_tests}
 use Rattle.std.proofs.lemmas.List.{drop_more}
 use Rattle.std.proofs.Math.ListN.{drop_of_length-le}
-use Rattle.trees.specs.Edges.{below, is_tree}
-use Rattle.trees.specs.Words.{is_member, edge_between, AllDifferent}
-use Rattle.trees.specs.Walks.{is_there, steps_of, after, walk_in, IsWalk, lifted, place_of, coloured, digits_of}
-use Rattle.trees.proofs.AllTrees.{both, each_of}
-use Rattle.trees.proofs.WordLaws.{subset_length, member-below, length-below}
-use Rattle.trees.proofs.DegreeRanks.{in_place}
+use Rattle.lists.specs.Ranges.{below}
+use Rattle.trees.specs.Edges.{is_tree}
+use Rattle.lists.specs.Members.{is_member, AllDifferent}
+use Rattle.trees.specs.Words.{edge_between}
+use Rattle.trees.specs.Walks.{steps_of, after, walk_in, IsWalk, lifted, place_of, coloured, digits_of}
+use Rattle.lists.proofs.Members.{each_of, in_place}
+use Rattle.lists.proofs.Different.{subset_length, member-below, length-below}
 use Rattle.trees.proofs.WalkLaws.{Within}
-use Rattle.trees.proofs.WalkedEdges.{AlongEdges, tree_walk}
+use Rattle.trees.proofs.WalkedEdges.{AlongEdges, tree_walk, length-after}
 use Rattle.decorated_tree.specs.Steps.{step_by, AreWithin}
 
 -- ---- the walk is short
-there_member : (x : ℕ) (xs : List ℕ) → is_there x xs ≡ is_member x xs
-there_member x [] = refl
-there_member x (y ∷ xs) = ap (λ (b : Bool). (y == x) || b) (there_member x xs)
-
 different_after : (walk : List (ℕ × ℕ)) (before : List ℕ) → IsWalk walk before → AllDifferent before
     → AllDifferent (after walk before)
 different_after [] before w d = d
-different_after (s ∷ walk) before w d = different_after walk (s.0 ∷ before) w.2 (sym (there_member s.0 before) ∙ w.0, d)
+different_after (s ∷ walk) before w d = different_after walk (s.0 ∷ before) w.2 (w.0, d)
 
 after_below : (n : ℕ) (walk : List (ℕ × ℕ)) (before : List ℕ) → Within walk n
     → ((v : ℕ) → is_member v before ≡ true → v < n)
@@ -37,10 +34,6 @@ after_below n (s ∷ walk) before w f v m = after_below n walk (s.0 ∷ before) 
     more : (u : ℕ) → is_member u (s.0 ∷ before) ≡ true → u < n
     more u h =
         ⊎_elim (λ e. subst (λ z. z < n) e w.0) (λ ne. f u (later u s.0 (is_member u before) h ne)) (cases_eq s.0 u)
-
-length-after : (walk : List (ℕ × ℕ)) (before : List ℕ) → length (after walk before) ≡ length walk + length before
-length-after [] before = omega arith
-length-after (s ∷ walk) before = let h = length-after walk (s.0 ∷ before) in omega arith
 
 walk_short : (n : ℕ) (walk : List (ℕ × ℕ)) → 0 < n → IsWalk walk (0 ∷ []) → Within walk n → length walk + 1 ≤ n
 walk_short n walk some w i =
@@ -79,9 +72,9 @@ pub record TreeWalk (n : ℕ) (es : List (ℕ × ℕ)) : Type 0 where
 
 pub walk_of_tree : (n : ℕ) (es : List (ℕ × ℕ)) → n ≤ 11 → is_tree n es ≡ true → TreeWalk n es
 walk_of_tree n es most t =
-    let reached = both _ _ t in
-    let counted = both _ _ reached.0 in
-    let set = both _ _ counted.0 in
+    let reached = and_parts _ _ t in
+    let counted = and_parts _ _ reached.0 in
+    let set = and_parts _ _ counted.0 in
     let count : length es + 1 ≡ n = eqb-true (length es + 1) n counted.1 in
     let w = tree_walk n es t in
     let short = walk_short n (walk_in n es (0 ∷ [])) (omega arith) w.walks w.within in
@@ -98,7 +91,7 @@ walk_of_tree n es most t =
 -- ---- which vertices are there
 pub record AreThere (marks : List Bool) (before : List ℕ) : Type 0 where
   pub long : length marks ≡ 11
-  pub at : (v : ℕ) → v < 11 → get_or marks v false ≡ is_there v before
+  pub at : (v : ℕ) → v < 11 → get_or marks v false ≡ is_member v before
 
 no_mark : (m v : ℕ) → get_or (replicate {A = Bool} m false) v false ≡ false
 no_mark zero v = refl
@@ -128,13 +121,13 @@ more_there marks before v h a = record {
     old : (u : ℕ) (b : Bool) → v ≢ u → ((v == u) || b) ≡ b
     old u b ne = grind (arith, nat_tests)
 
-    at : (u : ℕ) → u < 11 → (v ≡ u) ⊎ (v ≢ u) → get_or (set marks v true) u false ≡ ((v == u) || is_there u before)
+    at : (u : ℕ) → u < 11 → (v ≡ u) ⊎ (v ≢ u) → get_or (set marks v true) u false ≡ ((v == u) || is_member u before)
     at u k (inl e) =
         subst (λ z. get_or (set marks v true) z false ≡ true) e
         (get_or-set_same marks v true false (let l = a.long in omega arith))
-        ∙ sym (new u (is_there u before) e)
+        ∙ sym (new u (is_member u before) e)
     at u k (inr ne) =
-        get_or-set_other marks v u true false (λ e. ne (sym e)) ∙ a.at u k ∙ sym (old u (is_there u before) ne)
+        get_or-set_other marks v u true false (λ e. ne (sym e)) ∙ a.at u k ∙ sym (old u (is_member u before) ne)
 
 -- ---- the walk in the midst of a round
 pub record IsWalking (n : ℕ) (es : List (ℕ × ℕ)) (rounds : ℕ) (rest : List (ℕ × ℕ)) (walk : List (ℕ × ℕ)) (marks : List Bool) : Type 0 where
@@ -158,9 +151,9 @@ pub walking_end : (n : ℕ) (es : List (ℕ × ℕ)) (rounds i : ℕ) (walk : Li
 walking_end n es rounds i walk marks h w = subst (λ l. IsWalking n es rounds l walk marks) (drop_of_length-le es h) w
 
 step_taken : (e : ℕ × ℕ) (es : List (ℕ × ℕ)) (before : List ℕ) (s : ℕ × ℕ)
-    → step_by e (is_there e.0 before) (is_there e.1 before) ≡ Some s
+    → step_by e (is_member e.0 before) (is_member e.1 before) ≡ Some s
     → steps_of (e ∷ es) before ≡ s ∷ steps_of es (s.0 ∷ before)
-step_taken e es before s h = cases (is_there e.0 before) (is_there e.1 before) h
+step_taken e es before s h = cases (is_member e.0 before) (is_member e.1 before) h
   where
     some_is : (p q : ℕ × ℕ) → Some p ≡ Some q → p ≡ q
     some_is p q e = cc
@@ -174,8 +167,8 @@ step_taken e es before s h = cases (is_there e.0 before) (is_there e.1 before) h
     cases false false h = cc
 
 no_step : (e : ℕ × ℕ) (es : List (ℕ × ℕ)) (before : List ℕ)
-    → step_by e (is_there e.0 before) (is_there e.1 before) ≡ None → steps_of (e ∷ es) before ≡ steps_of es before
-no_step e es before h = cases (is_there e.0 before) (is_there e.1 before) h
+    → step_by e (is_member e.0 before) (is_member e.1 before) ≡ None → steps_of (e ∷ es) before ≡ steps_of es before
+no_step e es before h = cases (is_member e.0 before) (is_member e.1 before) h
   where
     cases : (a b : Bool) → step_by e a b ≡ None
         → (if a && not b then (e.1, e.0) ∷ steps_of es (e.1 ∷ before) else if b && not a then (e.0, e.1) ∷ steps_of es (e.0 ∷ before) else steps_of es before)
@@ -216,14 +209,14 @@ at_edge n es rounds i walk marks h w = subst (λ l. IsWalking n es rounds l walk
 found_step : (n : ℕ) (es : List (ℕ × ℕ)) (e : ℕ × ℕ) (walk : List (ℕ × ℕ)) (marks : List Bool) (o : Option (ℕ × ℕ))
     → e.0 < 11 → e.1 < 11
     → AreThere marks (after walk (0 ∷ [])) → o ≡ step_by e (get_or marks e.0 false) (get_or marks e.1 false)
-    → step_by e (is_there e.0 (after walk (0 ∷ []))) (is_there e.1 (after walk (0 ∷ []))) ≡ o
+    → step_by e (is_member e.0 (after walk (0 ∷ []))) (is_member e.1 (after walk (0 ∷ []))) ≡ o
 found_step n es e walk marks o p q a h =
-    ap (λ b. step_by e b (is_there e.1 (after walk (0 ∷ [])))) (sym (a.at e.0 p))
+    ap (λ b. step_by e b (is_member e.1 (after walk (0 ∷ [])))) (sym (a.at e.0 p))
     ∙ ap (λ b. step_by e (get_or marks e.0 false) b) (sym (a.at e.1 q)) ∙ sym h
 
 stepped_at : (n : ℕ) (es : List (ℕ × ℕ)) (rounds : ℕ) (e : ℕ × ℕ) (rest walk : List (ℕ × ℕ)) (marks : List Bool) (s : ℕ × ℕ)
     → length (walk_in n es (0 ∷ [])) ≤ 10
-    → e.0 < 11 → e.1 < 11 → step_by e (is_there e.0 (after walk (0 ∷ []))) (is_there e.1 (after walk (0 ∷ []))) ≡ Some s
+    → e.0 < 11 → e.1 < 11 → step_by e (is_member e.0 (after walk (0 ∷ []))) (is_member e.1 (after walk (0 ∷ []))) ≡ Some s
     → IsWalking n es rounds (e ∷ rest) walk marks → Stepped n es rounds rest walk marks s
 stepped_at n es rounds e rest walk marks s short p q found w =
     let before = after walk (0 ∷ []) in
@@ -236,10 +229,10 @@ stepped_at n es rounds e rest walk marks s short p q found w =
     let pushed = after-push walk s (0 ∷ []) in
     record {
       room = room tail whole;
-      new = step_ends e s (is_there e.0 before) (is_there e.1 before) found p q;
+      new = step_ends e s (is_member e.0 before) (is_member e.1 before) found p q;
       next = record {
         there = subst (AreThere (set marks s.0 true)) (sym pushed)
-            (more_there marks before s.0 (step_ends e s (is_there e.0 before) (is_there e.1 before) found p q) w.there);
+            (more_there marks before s.0 (step_ends e s (is_member e.0 before) (is_member e.1 before) found p q) w.there);
         whole = ap (λ b. (walk ++ s ∷ []) ++ (steps_of rest b ++ walk_in rounds es (after (steps_of rest b) b))) pushed
             ∙ append_assoc walk (s ∷ []) tail ∙ whole;
       };

@@ -1,8 +1,10 @@
 -- Digits that go on to the next number, and the tree after a tree.
 use Rattle.std.specs.Prelude.{◌≡◌, ℕ, ◌+◌, ◌-◌, ◌==◌, ◌&&◌, Bool, true, false, List, [], ◌∷◌, ◌++◌, length, replicate, slice_index}
 use Rattle.trees.specs.Decorated.{TreeShape, DecoratedTree, is_decorated}
-use Rattle.trees.specs.Numbering.{AreDigits, AreDegrees, joined, product_of, choose, rank_of}
-use Rattle.trees.specs.Numbers.{number_of}
+use Rattle.lists.specs.Digits.{AreDigits, joined, product_of}
+use Rattle.trees.specs.DegreeLists.{AreDegrees, rank_of}
+use Rattle.lists.specs.Binomials.{choose}
+use Rattle.trees.specs.TreeNumbers.{number_of}
 use Rattle.trees.specs.Walks.{walk_in, coloured, digits_of}
 use Rattle.decorated_tree.specs.Ranks.{binomial_rank}
 use Rattle.decorated_tree.specs.declared.tree.Tree.{Tree}

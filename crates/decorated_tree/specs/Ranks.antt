@@ -1,6 +1,6 @@
 -- The rank of a list of degrees by binomials.
 use Rattle.std.specs.Prelude.{ℕ, zero, suc, ◌+◌, ◌-◌, List, [], ◌∷◌, length}
-use Rattle.trees.specs.Numbering.{choose}
+use Rattle.lists.specs.Binomials.{choose}
 
 -- how many lists of n + 1 positive numbers with the sum d have a first number from 1 to b
 abbrev pub lists_passed : ℕ → ℕ → ℕ → ℕ

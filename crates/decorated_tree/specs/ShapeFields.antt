@@ -2,7 +2,7 @@
 use Rattle.std.specs.Prelude.{◌≡◌, ◌≤◌, ◌^◌, ℕ, List, true}
 use Rattle.std.proofs.Common.{sym}
 use Rattle.trees.specs.Decorated.{TreeShape}
-use Rattle.trees.specs.Numbers.{tree_count}
+use Rattle.trees.specs.TreeNumbers.{tree_count}
 use Rattle.decorated_tree.specs.Shapes.{shape_of, within_limits, counts_of}
 use Rattle.decorated_tree.specs.declared.shape.Shape.TheInside.{Inside}
 

@@ -1,7 +1,7 @@
 -- Shapes of decorated trees.
 use Rattle.std.specs.Prelude.{ℕ, zero, suc, ◌+◌, Bool, ◌&&◌, nat_le, List, [], ◌∷◌}
 use Rattle.trees.specs.Decorated.{TreeShape}
-use Rattle.trees.specs.Numbers.{trees_with}
+use Rattle.trees.specs.TreeNumbers.{trees_with}
 
 -- the shape of a greatest colour, a sum of degrees and a number of marks
 abbrev pub shape_of : ℕ → ℕ → ℕ → TreeShape

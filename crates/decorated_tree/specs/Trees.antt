@@ -2,7 +2,7 @@
 use Rattle.std.specs.Prelude.{◌≡◌, ◌-◌, ◌+◌, ◌==◌, ◌&&◌, nat_le, nat_lt, Bool, true, sum, take, drop}
 use Rattle.std.specs.List.{list_all}
 use Rattle.trees.specs.Decorated.{DecoratedTree, TreeShape, is_decorated, all_trees}
-use Rattle.trees.specs.Members.{IsIn}
+use Rattle.lists.specs.Members.{IsIn}
 use Rattle.decorated_tree.specs.declared.tree.Tree.{Tree}
 
 -- the decorated tree that the used entries give

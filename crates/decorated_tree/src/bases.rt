@@ -1,8 +1,8 @@
 //! The bases of the digits of a tree, and how many trees have the same number of vertices.
 
 ghost use Rattle.std.specs.Prelude.{◌≡◌, ℕ, ◌+◌, ◌-◌, ◌^◌, ◌<◌, ◌≤◌, ◌↔◌, IsNone, IfSome, length};
-ghost use Rattle.trees.specs.Numbering.{choose};
-ghost use Rattle.trees.specs.Numbers.{bases, trees_with};
+ghost use Rattle.lists.specs.Binomials.{choose};
+ghost use Rattle.trees.specs.TreeNumbers.{bases, trees_with};
 ghost use Rattle.decorated_tree.specs.Shapes.{shape_of};
 
 use crate::number_list::NumberList;

@@ -1,8 +1,9 @@
 //! Lists of degrees, and their ranks among all lists of as many positive numbers with the same sum.
 
 ghost use Rattle.std.specs.Prelude.{◌≡◌, ℕ, ◌+◌, ◌-◌, ◌*◌, ◌<◌, ◌≤◌, [], ◌++◌, length, get_or, replicate, List};
-ghost use Rattle.trees.specs.Numbering.{AreDegrees, choose, degree_lists, rank_of};
-ghost use Rattle.trees.specs.Padding.{padded};
+ghost use Rattle.trees.specs.DegreeLists.{AreDegrees, degree_lists, rank_of};
+ghost use Rattle.lists.specs.Binomials.{choose};
+ghost use Rattle.lists.specs.Padding.{padded};
 ghost use Rattle.decorated_tree.specs.Ranks.{binomial_rank, lists_passed};
 
 use crate::bases::choose;

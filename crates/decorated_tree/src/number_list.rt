@@ -17,7 +17,7 @@ pub(crate) struct NumberList {
 
 impl Model for NumberList {
     ghost use Rattle.std.specs.Prelude.{ℕ, List, take};
-    ghost use Rattle.trees.specs.Padding.{IsPadded};
+    ghost use Rattle.lists.specs.Padding.{IsPadded};
 
     ghost Value = { List ℕ };
 

@@ -3,7 +3,7 @@
 ghost use Rattle.std.specs.Prelude.{◌≡◌, ◌-◌, ◌+◌, ◌^◌, ◌<◌, ◌≤◌, ◌↔◌, ◌==◌, ◌&&◌, nat_le, nat_lt, false, true, sum, take, drop, length, IsTrue, IsOk, IsErr, IfOk};
 ghost use Rattle.std.specs.List.{list_all};
 ghost use Rattle.trees.specs.Decorated.{ends_differ};
-ghost use Rattle.trees.specs.Numbers.{tree_count, tree_of, number_of, digits_by};
+ghost use Rattle.trees.specs.TreeNumbers.{tree_count, tree_of, number_of, digits_by};
 ghost use Rattle.trees.specs.Words.{encoded};
 ghost use Rattle.decorated_tree.specs.Shapes.{within_limits};
 ghost use Rattle.decorated_tree.specs.Steps.{AreWithin};

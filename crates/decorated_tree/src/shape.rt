@@ -3,8 +3,8 @@
 ghost use Rattle.std.specs.Prelude.{◌≡◌, ℕ, ◌+◌, ◌-◌, ◌^◌, ◌<◌, ◌≤◌, ◌↔◌, false, true, length, IsTrue, IfOk, IsErrOf};
 ghost use Rattle.trees.specs.Correspondence.{NumbersAreTrees};
 ghost use Rattle.trees.specs.Decorated.{all_trees};
-ghost use Rattle.trees.specs.Numbering.{product_of};
-ghost use Rattle.trees.specs.Numbers.{bases, tree_count, trees_from};
+ghost use Rattle.lists.specs.Digits.{product_of};
+ghost use Rattle.trees.specs.TreeNumbers.{bases, tree_count, trees_from};
 ghost use Rattle.decorated_tree.specs.Shapes.{shape_of, within_limits, counts_of};
 
 use crate::bases::radix;

@@ -6,7 +6,7 @@ ghost use Rattle.decorated_tree.specs.Trees.{tree_view};
 ghost use Rattle.decorated_tree.specs.Growth.{Grows};
 
 use crate::tree::{Tree, used};
-use residue::NoMemory;
+use lists::NoMemory;
 
 /// Appends the text of a tree, one line without its line feed, as `edges 0-1:1 0-2:1 colours 0 1 1 marks -`.
 ///

@@ -3,12 +3,12 @@
 ghost use Rattle.std.specs.Prelude.{◌≡◌, ℕ, ◌+◌, ◌-◌, ◌*◌, ◌^◌, ◌<◌, ◌≤◌, true, [], ◌∷◌, length, All, IsTrue};
 ghost use Rattle.trees.specs.Edges.{is_tree};
 ghost use Rattle.trees.specs.Decorated.{all_trees, is_decorated};
-ghost use Rattle.trees.specs.Members.{IsIn};
-ghost use Rattle.trees.specs.Numbering.{AreDigits, split};
-ghost use Rattle.trees.specs.Numbers.{bases, trees_with, trees_from, tree_count, tree_by, tree_of, number_of};
+ghost use Rattle.lists.specs.Members.{IsIn};
+ghost use Rattle.lists.specs.Digits.{AreDigits, split};
+ghost use Rattle.trees.specs.TreeNumbers.{bases, trees_with, trees_from, tree_count, tree_by, tree_of, number_of};
 ghost use Rattle.trees.specs.Walks.{walk_in, coloured};
 ghost use Rattle.trees.specs.Words.{decoded};
-ghost use Rattle.trees.specs.Padding.{padded};
+ghost use Rattle.lists.specs.Padding.{padded};
 ghost use Rattle.decorated_tree.specs.Shapes.{within_limits};
 ghost use Rattle.decorated_tree.specs.Trees.{tree_view, is_padded};
 

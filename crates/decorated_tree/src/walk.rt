@@ -16,7 +16,7 @@ pub(crate) struct Walk {
 
 impl Model for Walk {
     ghost use Rattle.std.specs.Prelude.{ℕ, List, take};
-    ghost use Rattle.trees.specs.Padding.{IsPadded};
+    ghost use Rattle.lists.specs.Padding.{IsPadded};
 
     ghost Value = { List (ℕ × ℕ) };
 

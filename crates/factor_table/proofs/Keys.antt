@@ -3,8 +3,8 @@ use Rattle.std.proofs.Common.{◌≡◌, ℕ, ◌<◌, ◌≤◌, length, Result
 use Rattle.std.specs.List.{slice_get}
 use Rattle.std.proofs.lemmas.Option.{get_or_from_slice_get}
 use Rattle.residue.specs.declared.errors.NoUnit.{NoUnit}
-use Rattle.residue.specs.declared.class.Class.{Class}
-use Rattle.residue.specs.declared.class.Class.TheVariants.{Contact}
+use Rattle.classes.specs.declared.class.Class.{Class}
+use Rattle.classes.specs.declared.class.Class.TheVariants.{Contact}
 use Rattle.residue.specs.Answers.{GivesResidue}
 use Rattle.factor_table.specs.declared.key.Key.{Key}
 use Rattle.factor_table.specs.declared.layout.Sizes.{Sizes}

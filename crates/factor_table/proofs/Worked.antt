@@ -2,7 +2,7 @@
 use Rattle.std.proofs.Common.{◌≡◌, ℕ, inl, inr, [], ◌∷◌, refl, pos, lit<, arith}
 use Rattle.std.proofs.lemmas.Nat.Gcd.{dvd_of_mod-eq-zero}
 use Rattle.arithmetic.proofs.Euclid.{last_remainder, gcd_by_euclid}
-use Rattle.residue.specs.declared.class.Class.TheVariants.{R1}
+use Rattle.classes.specs.declared.class.Class.TheVariants.{R1}
 use Rattle.localisation.specs.Weights.{tangent_product}
 use Rattle.localisation.specs.EdgeFraction.{edge_top, edge_bottom, colour_product, other_colours_product}
 use Rattle.localisation.specs.VertexFraction.{plain_vertex}

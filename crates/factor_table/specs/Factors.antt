@@ -3,8 +3,8 @@ use Rattle.std.specs.Prelude.{◌≡◌, ◌≢◌, ℕ, ◌+◌, ◌≤◌, ◌
 use Rattle.arithmetic.specs.Numbers.{gcd}
 use Rattle.arithmetic.specs.Fractions.{Fraction, fraction, IsResidue}
 use Rattle.residue.specs.declared.errors.NoUnit.{NoUnit}
-use Rattle.residue.specs.declared.class.Class.{Class}
-use Rattle.residue.specs.declared.class.Class.TheVariants.{Mark, Hypersurface, Incidence, R1, Contact, Psi}
+use Rattle.classes.specs.declared.class.Class.{Class}
+use Rattle.classes.specs.declared.class.Class.TheVariants.{Mark, Hypersurface, Incidence, R1, Contact, Psi}
 use Rattle.localisation.specs.Weights.{weight, tangent_product}
 use Rattle.localisation.specs.EdgeFraction.{edge_fraction}
 use Rattle.localisation.specs.VertexFraction.{plain_vertex}

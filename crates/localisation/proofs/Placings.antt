@@ -3,7 +3,8 @@ use Rattle.std.proofs.Common.{◌≡◌, ℕ, zero, suc, ◌+◌, ◌-◌, ◌*�
 use Rattle.std.proofs.lemmas.List.Sums.{sum_by-cons}
 use Rattle.std.proofs.Math.Nat.{mul-div_cancel}
 use Rattle.arithmetic.specs.Numbers.{factorial}
-use Rattle.trees.specs.Numbering.{choose, product_of}
+use Rattle.lists.specs.Binomials.{choose}
+use Rattle.lists.specs.Digits.{product_of}
 use Rattle.localisation.specs.VertexFraction.{multinomial}
 
 none_of_more : (n k : ℕ) → n < k → choose n k ≡ 0

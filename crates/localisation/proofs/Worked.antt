@@ -6,11 +6,11 @@ use Rattle.arithmetic.proofs.Euclid.{last_remainder, gcd_by_euclid}
 use Rattle.arithmetic.specs.Fractions.{Fraction, IsResidue}
 use Rattle.trees.specs.Decorated.{TreeShape, is_decorated, all_trees}
 use Rattle.trees.specs.Words.{decoded}
-use Rattle.trees.specs.Numbers.{tree_of}
-use Rattle.residue.specs.declared.class.Class.{Class}
-use Rattle.residue.specs.declared.class.Class.TheVariants.{Mark, Hypersurface, Incidence, R1, Contact, Psi}
-use Rattle.residue.specs.declared.class.Power.{Power}
-use Rattle.residue.specs.declared.class.Term.{Term}
+use Rattle.trees.specs.TreeNumbers.{tree_of}
+use Rattle.classes.specs.declared.class.Class.{Class}
+use Rattle.classes.specs.declared.class.Class.TheVariants.{Mark, Hypersurface, Incidence, R1, Contact, Psi}
+use Rattle.classes.specs.declared.class.Power.{Power}
+use Rattle.classes.specs.declared.class.Term.{Term}
 use Rattle.localisation.specs.Weights.{tangent_product}
 use Rattle.localisation.specs.EdgeFraction.{edge_fraction, edge_top, edge_bottom, colour_product, other_colours_product}
 use Rattle.localisation.specs.VertexFraction.{End, plain_vertex, psi_vertex, vertex_fraction, multinomial}

@@ -1,27 +1,26 @@
--- Where a tree is bad for a modulus, and which fractions agree with residues.
-use Rattle.std.specs.Prelude.{◌≡◌, ◌≢◌, ℕ, ◌*◌, ◌/◌, ◌%◌, ◌≤◌, ◌<◌, ℤ, pos, ◌-ℤ◌, ◌*ℤ◌, nat_abs, List, [], length, slice_index, get_or, Bool, true, ◌==◌, not}
-use Rattle.std.specs.Int.{◌∣◌}
+-- Bad trees, whose contribution has no residue modulo some modulus, and the residues of all sums.
+use Rattle.std.specs.Prelude.{◌≡◌, ◌≢◌, ℕ, ◌*◌, ◌/◌, ◌%◌, ◌≤◌, ◌<◌, ℤ, nat_abs, List, [], length, slice_index, get_or, Bool, true, ◌==◌, not}
 use Rattle.std.specs.List.{list_any}
 use Rattle.arithmetic.specs.Numbers.{gcd}
 use Rattle.arithmetic.specs.Fractions.{Fraction, IsResidue}
 use Rattle.trees.specs.Decorated.{DecoratedTree, TreeShape}
-use Rattle.trees.specs.Numbers.{tree_of}
-use Rattle.residue.specs.declared.class.Term.{Term}
+use Rattle.trees.specs.TreeNumbers.{tree_of}
+use Rattle.classes.specs.declared.class.Term.{Term}
 use Rattle.localisation.specs.Contribution.{contribution}
 
 -- the fraction has no residue modulo m, whatever its top is
 abbrev pub lacks_residue : ℕ → Fraction → Bool
 lacks_residue m f = not (gcd (nat_abs f.bottom) m == 1)
 
--- a tree is bad for a modulus where its contribution to some integral has no residue
+-- a tree is bad for a modulus if its contribution to some integral has no residue
 unfoldable pub is_bad_for : List ℤ → List (List Term) → DecoratedTree → ℕ → Bool
 is_bad_for ws integrals g m = list_any (λ terms. lacks_residue m (contribution ws terms g)) integrals
 
--- a tree is bad where it is bad for some modulus
+-- a tree is bad if it is bad for some modulus
 abbrev pub is_bad_tree : List ℤ → List (List Term) → List ℕ → DecoratedTree → Bool
 is_bad_tree ws integrals ms g = list_any (is_bad_for ws integrals g) ms
 
--- a number is bad where its tree is bad
+-- a number is bad if its tree is bad
 unfoldable pub is_bad_number : List ℤ → List (List Term) → List ℕ → TreeShape → ℕ → Bool
 is_bad_number ws integrals ms shape k = is_bad_tree ws integrals ms (tree_of shape k)
 
@@ -36,17 +35,17 @@ pub record IsLeastBad (bad : ℕ → Bool) (lo hi k : ℕ) : Type 0 where
 abbrev pub NoneBad : (ℕ → Bool) → ℕ → ℕ → Type 0
 NoneBad bad lo hi = (j : ℕ) → lo ≤ j → j < hi → bad j ≢ true
 
--- the place i is that of the first modulus for which a tree is bad
+-- i is the index of the first modulus for which a tree is bad
 pub record IsFirstBad (bad : ℕ → Bool) (ms : List ℕ) (i : ℕ) : Type 0 where
   pub place : i < length ms
   pub is_bad : bad (slice_index ms i) ≡ true
   pub first : (j : ℕ) → j < i → bad (slice_index ms j) ≢ true
 
--- Residues stand integral by integral, and within one integral modulus by modulus: the modulus at a place ..
+-- Residues stand integral by integral, and within one integral modulus by modulus: the modulus at an index ..
 abbrev pub modulus_at : List ℕ → ℕ → ℕ
 modulus_at ms place = slice_index ms (place % length ms)
 
--- .. and the integral at a place
+-- .. and the integral at an index
 abbrev pub integral_at : List ℕ → List (List Term) → ℕ → List Term
 integral_at ms integrals place = get_or integrals (place / length ms) []
 
@@ -56,11 +55,3 @@ pub record AreResiduesOf (ms : List ℕ) (integrals : List (List Term)) (fractio
   pub as_many : length integrals * length ms ≤ length xs
   pub each : (place : ℕ) → place < length integrals * length ms
       → IsResidue (modulus_at ms place) (fraction_of (integral_at ms integrals place)) (slice_index xs place)
-
--- the pair of a top and a bottom is within the bounds, in lowest terms, and has these residues
-pub record Agrees (ms xs : List ℕ) (top_bound bottom_bound : ℕ) (top : ℤ) (bottom : ℕ) : Type 0 where
-  pub top_within : nat_abs top ≤ top_bound
-  pub positive : 1 ≤ bottom
-  pub bottom_within : bottom ≤ bottom_bound
-  pub lowest : gcd (nat_abs top) bottom ≡ 1
-  pub divides : (i : ℕ) → i < length ms → slice_index ms i ∣ nat_abs (pos bottom *ℤ pos (slice_index xs i) -ℤ top)

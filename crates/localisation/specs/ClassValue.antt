@@ -1,14 +1,14 @@
 -- The values of classes and terms at a decorated tree. They are this project's own definitions, made by the method of Kontsevich
 -- (1995): the names say what the classes are meant for, and nothing is stated about the geometric classes of these names.
 use Rattle.std.specs.Prelude.{ℕ, ◌+◌, ◌-◌, ◌*◌, ◌==◌, if◌then◌else◌, List, [], ◌∷◌, ◌++◌, length, filter, map, sum, slice_index, ℤ, pos, ◌*ℤ◌, neg_ℤ}
-use Rattle.arithmetic.specs.Numbers.{power, product_below, sum_below, total}
+use Rattle.arithmetic.specs.Numbers.{power, product_below, integer_sum_below, integer_sum}
 use Rattle.arithmetic.specs.Fractions.{Fraction, fraction, times, product_of_fractions, power_of_fraction}
-use Rattle.trees.specs.Edges.{below}
-use Rattle.trees.specs.Decorated.{DecoratedTree, counted_from}
-use Rattle.residue.specs.declared.class.Class.{Class}
-use Rattle.residue.specs.declared.class.Class.TheVariants.{Mark, Hypersurface, Incidence, R1, Contact, Psi}
-use Rattle.residue.specs.declared.class.Power.{Power}
-use Rattle.residue.specs.declared.class.Term.{Term}
+use Rattle.lists.specs.Ranges.{below, counted_from}
+use Rattle.trees.specs.Decorated.{DecoratedTree}
+use Rattle.classes.specs.declared.class.Class.{Class}
+use Rattle.classes.specs.declared.class.Class.TheVariants.{Mark, Hypersurface, Incidence, R1, Contact, Psi}
+use Rattle.classes.specs.declared.class.Power.{Power}
+use Rattle.classes.specs.declared.class.Term.{Term}
 use Rattle.localisation.specs.Weights.{weight, between_weights}
 use Rattle.localisation.specs.VertexFraction.{End}
 
@@ -101,13 +101,13 @@ incidence_term ws q i j t = power (weight ws i) t *ℤ power (weight ws j) (q - 
 
 -- a times its sum over t from 0 to q - 1
 abbrev pub incidence_at : List ℤ → ℕ → ℕ → ℕ → ℕ → ℤ
-incidence_at ws q i j a = pos a *ℤ sum_below q (incidence_term ws q i j)
+incidence_at ws q i j a = pos a *ℤ integer_sum_below q (incidence_term ws q i j)
 
 -- the value of a class at a tree
 abbrev pub class_value : List ℤ → Class → DecoratedTree → Fraction
 class_value ws (Mark j) g = fraction (weight ws (colour_of g (slice_index g.marks (j - 1)))) (pos 1)
 class_value ws (Hypersurface b) g = class_product ws (Hypersurface b) g
-class_value ws (Incidence q) g = fraction (total (at_edges (incidence_at ws q) g)) (pos 1)
+class_value ws (Incidence q) g = fraction (integer_sum (at_edges (incidence_at ws q) g)) (pos 1)
 class_value ws (R1 k) g = class_product ws (R1 k) g
 class_value ws Contact g = class_product ws Contact g
 class_value ws (Psi j) g = fraction (pos 1) (pos 1)

@@ -3,8 +3,8 @@ use Rattle.std.specs.Prelude.{ℕ, ◌-◌, List, map, ℤ, pos}
 use Rattle.arithmetic.specs.Numbers.{factorial}
 use Rattle.arithmetic.specs.Fractions.{Fraction, fraction, times, product_of_fractions, sum_of_fractions}
 use Rattle.trees.specs.Decorated.{DecoratedTree, TreeShape, all_trees}
-use Rattle.trees.specs.Numbers.{numbered_trees}
-use Rattle.residue.specs.declared.class.Term.{Term}
+use Rattle.trees.specs.TreeNumbers.{numbered_trees}
+use Rattle.classes.specs.declared.class.Term.{Term}
 use Rattle.localisation.specs.EdgeFraction.{edge_fraction}
 use Rattle.localisation.specs.VertexFraction.{vertex_fraction}
 use Rattle.localisation.specs.ClassValue.{ends_at, colour_of, at_edges, at_vertices, term_value, exponents_at}

@@ -20,7 +20,7 @@ colour_factor ws i j a k = if (k == i) || (k == j) then pos 1 else colour_produc
 unfoldable pub other_colours_product : List ℤ → ℕ → ℕ → ℕ → ℤ
 other_colours_product ws i j a = product_below (length ws) (colour_factor ws i j a)
 
--- (-1)^a a^(2a) a^((r-1)(a+1)), where r is one less than the number of weights
+-- (-1)^a a^(2a) a^((r-1)(a+1)); r is one less than the number of weights
 unfoldable pub edge_top : List ℤ → ℕ → ℤ
 edge_top ws a = power (negsuc 0) a *ℤ power (pos a) (2 * a) *ℤ power (pos a) ((length ws - 1 - 1) * (a + 1))
 

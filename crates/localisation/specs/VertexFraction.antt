@@ -1,10 +1,10 @@
 -- The fraction of a vertex (Kontsevich 1995; Graber and Pandharipande 1999). The cases with exponents of
 -- psi classes are made by the same method and are this project's own definition.
 use Rattle.std.specs.Prelude.{ℕ, zero, suc, ◌+◌, ◌-◌, ◌*◌, ◌/◌, nat_lt, ◌==◌, if◌then◌else◌, List, [], ◌∷◌, length, map, sum, remove, ℤ, pos, ◌+ℤ◌, ◌-ℤ◌, ◌*ℤ◌, neg_ℤ}
-use Rattle.arithmetic.specs.Numbers.{power, factorial, product, total}
+use Rattle.arithmetic.specs.Numbers.{power, factorial, integer_product, integer_sum}
 use Rattle.arithmetic.specs.Fractions.{Fraction, fraction}
-use Rattle.trees.specs.Edges.{below}
-use Rattle.trees.specs.Numbering.{product_of}
+use Rattle.lists.specs.Ranges.{below}
+use Rattle.lists.specs.Digits.{product_of}
 use Rattle.localisation.specs.Weights.{weight, tangent_product}
 
 -- an end at a vertex: the colour of the neighbour and the degree of the edge
@@ -18,7 +18,7 @@ difference ws c e = weight ws c -ℤ weight ws e.colour
 
 -- the product of the differences
 abbrev pub product_of_differences : List ℤ → ℕ → List End → ℤ
-product_of_differences ws c es = product (map (difference ws c) es)
+product_of_differences ws c es = integer_product (map (difference ws c) es)
 
 -- the degree of an end
 abbrev pub degree_at : List End → ℕ → ℕ
@@ -28,11 +28,11 @@ degree_at (e ∷ es) (suc u) = degree_at es u
 
 -- the sum over the ends of the degree times the differences of the other ends
 abbrev pub crossed_sum : List ℤ → ℕ → List End → ℤ
-crossed_sum ws c es = total (map (λ u. pos (degree_at es u) *ℤ product_of_differences ws c (remove es u)) (below (length es)))
+crossed_sum ws c es = integer_sum (map (λ u. pos (degree_at es u) *ℤ product_of_differences ws c (remove es u)) (below (length es)))
 
 -- the product of the degrees
 abbrev pub product_of_degrees : List End → ℤ
-product_of_degrees es = product (map (λ (e : End). pos e.degree) es)
+product_of_degrees es = integer_product (map (λ (e : End). pos e.degree) es)
 
 -- n! over the factorials of the exponents and of what is left: the number of ways to place them, a whole number
 abbrev pub multinomial : ℕ → List ℕ → ℕ

@@ -10,7 +10,7 @@ weight ws c = slice_index_or ws c (pos 0)
 abbrev pub between_weights : List ℤ → ℕ → ℕ → ℕ → ℕ → ℤ
 between_weights ws i j t s = pos t *ℤ weight ws i +ℤ pos s *ℤ weight ws j
 
--- the difference of the weight of c to that of j, left out where they are one colour
+-- the difference of the weight of c to that of j, left out if they are one colour
 abbrev pub tangent_term : List ℤ → ℕ → ℕ → ℤ
 tangent_term ws c j = if j == c then pos 1 else weight ws c -ℤ weight ws j
 

@@ -1,7 +1,7 @@
 -- What follows from how a run ends.
 use Rattle.std.specs.List.{list_all}
 use Rattle.std.proofs.Common.{◌≡◌, ◌↔◌, ◌⊎◌, ℕ, inl, inr, ◌==◌, Bool, true, false, is_some, List, Option, Some, None, Result, Ok, IsErr, IfSome, refl, sym, ◌∙◌, subst, arith, IsSome, if◌then◌else◌}
-use Rattle.trees.specs.Numbers.{tree_of}
+use Rattle.trees.specs.TreeNumbers.{tree_of}
 use Rattle.localisation.specs.Agreement.{is_bad_number}
 use Rattle.locus_io.specs.Causes.{Rose}
 use Rattle.locus_io.specs.Content.{NamedFiles, file_of}

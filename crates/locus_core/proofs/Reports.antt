@@ -2,9 +2,9 @@
 use Rattle.std.proofs.Common.{◌≡◌, ℕ, ◌<◌, ◌≤◌, List, true, sym, subst, arith, ⊎_elim}
 use Rattle.std.proofs.lemmas.Bool.{cases_lt}
 use Rattle.trees.specs.Decorated.{DecoratedTree, all_trees}
-use Rattle.trees.specs.Members.{IsIn}
-use Rattle.trees.specs.Numbers.{number_of}
-use Rattle.trees.proofs.NumberLaws.{tree_of_in_all_trees}
+use Rattle.lists.specs.Members.{IsIn}
+use Rattle.trees.specs.TreeNumbers.{number_of}
+use Rattle.trees.proofs.TreeNumbers.{tree_of_in_all_trees}
 use Rattle.localisation.specs.Agreement.{IsLeastBad, NoneBad, IsFirstBad}
 use Rattle.localisation.proofs.AllNumbers.{none_bad_trees, bad_number_of}
 use Rattle.decorated_tree.proofs.Counts.{limits}

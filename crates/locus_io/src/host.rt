@@ -3,7 +3,7 @@
 ghost use Rattle.std.specs.Prelude.{◌≡◌, ◌≤◌, None, IfOk, vec_len, option_map, string_bytes};
 
 use crate::outside::{Failed, Files, LoadError, Sink, Stopper};
-use residue::NoMemory;
+use lists::NoMemory;
 use std::alloc::Global;
 use std::io::{ErrorKind, Read, Stderr, Stdout, Write};
 use std::{fs, rt};

@@ -5,7 +5,7 @@ ghost use Rattle.locus_io.specs.Content.{told_files, file_of};
 ghost use Rattle.locus_io.specs.Memory.{counted, taken_of, IsFull};
 
 use crate::outside::{Failed, Files, LoadError, Sink};
-use residue::NoMemory;
+use lists::NoMemory;
 use std::alloc::Global;
 use std::marker::Model;
 

@@ -4,7 +4,7 @@ ghost use Rattle.std.specs.Prelude.{◌≡◌, ◌≢◌, ◌<◌, ◌≤◌, �
 ghost use Rattle.locus_io.specs.Causes.{HasCause, RoseBy, Stayed};
 ghost use Rattle.locus_io.specs.Content.{NamedFiles, file_of, Appends};
 
-use residue::NoMemory;
+use lists::NoMemory;
 use std::alloc::Global;
 
 /// A call of the outside failed, and its object counted a fault.

@@ -4,7 +4,7 @@ ghost use Rattle.std.specs.Prelude.{◌≡◌, ◌≢◌, ◌≤◌, Some, None,
 ghost use Rattle.locus_io.specs.Memory.{answer_at, counted};
 
 use crate::outside::Stopper;
-use residue::NoMemory;
+use lists::NoMemory;
 use std::alloc::Global;
 use std::marker::Model;
 

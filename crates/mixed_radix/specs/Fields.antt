@@ -1,8 +1,9 @@
 -- The fields of a `Radix`, given back by its bases.
 use Rattle.std.specs.Prelude.{◌≡◌, ℕ, List, length, take}
 use Rattle.std.proofs.Common.{sym}
-use Rattle.trees.specs.Numbering.{product_of}
-use Rattle.trees.specs.Padding.{padded, IsPadded, length-front, padded-take}
+use Rattle.lists.specs.Digits.{product_of}
+use Rattle.lists.specs.Padding.{padded, IsPadded}
+use Rattle.lists.proofs.Padding.{length-front, padded-take}
 use Rattle.mixed_radix.specs.declared.Radix.TheInside.{Inside}
 
 abbrev pub fields_of : List ℕ → Inside

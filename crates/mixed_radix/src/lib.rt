@@ -6,7 +6,7 @@
 
 ghost use Rattle.std.specs.Prelude.{◌≡◌, ℕ, ◌+◌, ◌^◌, ◌<◌, ◌≤◌, ◌↔◌, ◌==◌, [], length, replicate, position, IsTrue, IsNone, IfSome, IfOk, IsErrOf, Some};
 ghost use Rattle.std.specs.Bool.{OnTrue, OnFalse};
-ghost use Rattle.trees.specs.Numbering.{product_of, joined, split, AreDigits};
+ghost use Rattle.lists.specs.Digits.{product_of, joined, split, AreDigits};
 
 use std::marker::Model;
 
@@ -22,7 +22,7 @@ pub enum RadixError {
     /// There are more than [`MOST_BASES`] bases.
     TooMany,
 
-    /// The base at this place, counted from 0, is 0, and none before it is.
+    /// The base at this index, counted from 0, is 0, and none before it is.
     ZeroBase { place: u32 },
 
     /// The product of the bases is above [`MOST_NUMBERS`].
@@ -39,8 +39,8 @@ pub struct Radix {
 
 impl Model for Radix {
     ghost use Rattle.std.specs.Prelude.{◌≡◌, ℕ, ◌^◌, ◌<◌, ◌≤◌, List, take};
-    ghost use Rattle.trees.specs.Numbering.{product_of};
-    ghost use Rattle.trees.specs.Padding.{IsPadded};
+    ghost use Rattle.lists.specs.Digits.{product_of};
+    ghost use Rattle.lists.specs.Padding.{IsPadded};
 
     ghost Value = { List ℕ };
 
@@ -126,7 +126,7 @@ impl Radix {
 
     /// Writes the digits of `k`, which is below the size, the most significant first.
     ///
-    /// `digits` has one place a base. Each digit is below its base, and the number is the sum of each digit times the
+    /// `digits` has one digit for each base. Each digit is below its base, and the number is the sum of each digit times the
     /// product of the bases after it.
     pub fn split(&self, k: u64, digits: &mut [u64])
         requires below { k < product_of self.now }
@@ -162,7 +162,7 @@ impl Radix {
     /// Goes on from the digits of a number to those of the next one, and says whether there is one.
     ///
     /// After the greatest number, which is the size less 1, all digits are 0. On average this writes fewer than two
-    /// digits where each base is 2 or more.
+    /// digits if each base is 2 or more.
     pub fn next(&self, digits: &mut [u64]) -> bool
         requires { AreDigits self.now digits.old }
         ensures more { IsTrue result ↔ (joined self.now digits.old + 1 < product_of self.now) }
@@ -183,7 +183,7 @@ impl Radix {
     }
 }
 
-/// The first place that holds 0.
+/// The first index that holds 0.
 fn first_zero(bases: &[u64]) -> Option<usize>
     ensures { result ≡ position (λ base. base == 0) bases.now }
 {

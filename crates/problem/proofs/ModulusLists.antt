@@ -5,8 +5,8 @@ use Rattle.std.proofs.lemmas.List.{take_all}
 use Rattle.std.proofs.lemmas.List.Elements.{All-from_get_or}
 use Rattle.std.specs.Option.{SomeIff}
 use Rattle.arithmetic.specs.Numbers.{gcd}
-use Rattle.trees.specs.Numbering.{product_of}
-use Rattle.recover_fraction.specs.CommonResidues.{ArePairwiseCoprime}
+use Rattle.lists.specs.Digits.{product_of}
+use Rattle.arithmetic.specs.Agreement.{ArePairwiseCoprime}
 
 -- a list that has a first element is that element before the others
 pub by_first : (ms : List ℕ) (d : ℕ) → 0 < length ms → ms ≡ get_or ms 0 d ∷ take (length ms - 1) (drop 1 ms)

@@ -1,15 +1,15 @@
 -- What a problem is, and the rules that it keeps.
 use Rattle.std.specs.Prelude.{◌≡◌, ℕ, ◌+◌, ◌-◌, ◌*◌, ◌^◌, ◌<◌, ◌≤◌, ℤ, unsigned_abs, List, [], ◌∷◌, length, sum_by, All, true}
 use Rattle.trees.specs.Decorated.{TreeShape}
-use Rattle.trees.specs.Numbers.{tree_count}
-use Rattle.trees.specs.Numbering.{product_of}
+use Rattle.trees.specs.TreeNumbers.{tree_count}
+use Rattle.lists.specs.Digits.{product_of}
 use Rattle.decorated_tree.specs.Shapes.{within_limits}
-use Rattle.residue.specs.Classes.{IsClassFor}
-use Rattle.residue.specs.Degrees.{class_degree}
+use Rattle.classes.specs.Classes.{IsClassFor}
+use Rattle.classes.specs.Degrees.{class_degree}
 use Rattle.residue.specs.Limits.{IsModulus, AreWeights}
-use Rattle.recover_fraction.specs.CommonResidues.{ArePairwiseCoprime}
-use Rattle.residue.specs.declared.class.Power.{Power}
-use Rattle.residue.specs.declared.class.Term.{Term}
+use Rattle.arithmetic.specs.Agreement.{ArePairwiseCoprime}
+use Rattle.classes.specs.declared.class.Power.{Power}
+use Rattle.classes.specs.declared.class.Term.{Term}
 
 -- what a problem is, without the rules that it keeps
 pub record ProblemView : Type 0 where

@@ -1,8 +1,8 @@
 -- What the trees of a problem sum to.
 use Rattle.std.specs.Prelude.{◌≡◌, ℕ, ◌*◌, ◌≤◌, Bool, true, List, length, slice_index}
 use Rattle.trees.specs.Decorated.{DecoratedTree, all_trees}
-use Rattle.trees.specs.Members.{IsIn}
-use Rattle.trees.specs.Numbers.{tree_count, tree_of}
+use Rattle.lists.specs.Members.{IsIn}
+use Rattle.trees.specs.TreeNumbers.{tree_count, tree_of}
 use Rattle.localisation.specs.Contribution.{partial_sum, kontsevich_sum}
 use Rattle.localisation.specs.Agreement.{is_bad_for, is_bad_tree, is_bad_number, AreResiduesOf}
 use Rattle.problem.specs.Rules.{ProblemView}

@@ -1,7 +1,7 @@
 //! The degrees of terms.
 
 ghost use Rattle.std.specs.Prelude.{◌≡◌, ◌≤◌, ◌<◌, ◌↔◌, IsTrue, All, length};
-ghost use Rattle.residue.specs.Degrees.{HasParameterWithinLimit};
+ghost use Rattle.classes.specs.Degrees.{HasParameterWithinLimit};
 ghost use Rattle.problem.specs.Rules.{IsTerm, HasDimension, IsTermOf, dimension_of, powers_degree};
 
 use crate::limits::is_term;

@@ -1,7 +1,7 @@
 //! Tests of whether classes and terms are within their limits.
 
 ghost use Rattle.std.specs.Prelude.{◌≡◌, ◌≤◌, ◌↔◌, IsTrue, All, length, unsigned_abs};
-ghost use Rattle.residue.specs.Classes.{IsClassFor};
+ghost use Rattle.classes.specs.Classes.{IsClassFor};
 ghost use Rattle.problem.specs.Rules.{IsPower, IsTerm};
 
 use residue::{Class, Power, Term};

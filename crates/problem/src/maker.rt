@@ -2,7 +2,7 @@
 
 ghost use Rattle.std.specs.Prelude.{◌≡◌, ◌+◌, ◌^◌, ◌≤◌, ◌↔◌, true, length, IsTrue, IsSome, IfSome};
 ghost use Rattle.decorated_tree.specs.Shapes.{within_limits};
-ghost use Rattle.trees.specs.Numbers.{tree_count};
+ghost use Rattle.trees.specs.TreeNumbers.{tree_count};
 ghost use Rattle.residue.specs.Limits.{AreWeights};
 ghost use Rattle.problem.specs.Problems.{view as problem_view};
 ghost use Rattle.problem.specs.Rules.{KeepsRules, problem_of_parts};

@@ -2,8 +2,8 @@
 
 ghost use Rattle.std.specs.Prelude.{◌≡◌, ◌*◌, ◌^◌, ◌<◌, ◌≤◌, ◌↔◌, IsTrue, IfSome, IsNone, All, length};
 ghost use Rattle.arithmetic.specs.Numbers.{gcd};
-ghost use Rattle.trees.specs.Numbering.{product_of};
-ghost use Rattle.recover_fraction.specs.CommonResidues.{ArePairwiseCoprime};
+ghost use Rattle.lists.specs.Digits.{product_of};
+ghost use Rattle.arithmetic.specs.Agreement.{ArePairwiseCoprime};
 ghost use Rattle.residue.specs.Limits.{IsModulus};
 ghost use Rattle.problem.specs.Rules.{AreModuli, AreBounds};
 

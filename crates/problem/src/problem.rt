@@ -1,7 +1,7 @@
 //! A problem, whose type keeps the rules.
 
 ghost use Rattle.problem.specs.Rules.{KeepsRules};
-ghost use Rattle.residue.proofs.ClassFacts.{class_facts};
+ghost use Rattle.classes.proofs.ClassFacts.{class_facts};
 
 use decorated_tree::Shape;
 use residue::{Integrals, Moduli, Setup};

@@ -8,16 +8,16 @@ use Rattle.std.proofs.lemmas.List.Elements.{All-cons, All-nil}
 use Rattle.arithmetic.specs.Numbers.{gcd}
 use Rattle.arithmetic.proofs.Euclid.{last_remainder, gcd_by_euclid}
 use Rattle.trees.specs.Decorated.{TreeShape}
-use Rattle.trees.specs.Numbers.{tree_count}
+use Rattle.trees.specs.TreeNumbers.{tree_count}
 use Rattle.decorated_tree.specs.Shapes.{shape_of, within_limits}
 use Rattle.decorated_tree.specs.declared.shape.ShapeError.{ShapeError}
 use Rattle.decorated_tree.specs.declared.shape.ShapeError.TheVariants.{OutOfLimits, TooManyTrees}
 use Rattle.residue.specs.Limits.{IsModulus, IsWeight, AreWeights, is_beyond_limit}
-use Rattle.residue.specs.declared.class.Term.{Term}
-use Rattle.residue.specs.declared.class.Class.TheVariants.{Hypersurface}
+use Rattle.classes.specs.declared.class.Term.{Term}
+use Rattle.classes.specs.declared.class.Class.TheVariants.{Hypersurface}
 use Rattle.residue.specs.declared.setup.SetupError.{SetupError}
 use Rattle.residue.specs.declared.setup.SetupError.TheVariants.{BadCount, BadWeight}
-use Rattle.recover_fraction.specs.CommonResidues.{ArePairwiseCoprime}
+use Rattle.arithmetic.specs.Agreement.{ArePairwiseCoprime}
 use Rattle.problem.specs.Rules.{ProblemView, KeepsRules, IsPower, IsTermOf, IsIntegralOf}
 use Rattle.problem_toml.specs.Generator.{weights_of_base, quintic, generated_problem}
 use Rattle.problem_toml.proofs.ProblemLaws.{no_place}

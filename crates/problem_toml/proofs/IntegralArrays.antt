@@ -6,7 +6,7 @@ use Rattle.std.proofs.lemmas.List.Sums.{sum_by-append}
 use Rattle.toml.specs.declared.value.Value.{Value}
 use Rattle.toml.specs.Data.{as_table, Members}
 use Rattle.toml.specs.View.{view, items_view}
-use Rattle.residue.specs.declared.class.Term.{Term}
+use Rattle.classes.specs.declared.class.Term.{Term}
 use Rattle.problem.specs.Rules.{IsTerm}
 use Rattle.problem_toml.specs.Integrals.{integral_of, integrals_from}
 use Rattle.problem_toml.specs.Steps.{◌>>=◌}

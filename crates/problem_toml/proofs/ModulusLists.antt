@@ -5,7 +5,7 @@ use Rattle.std.proofs.lemmas.List.{append-nil, drop_all, drop_more}
 use Rattle.std.proofs.lemmas.List.Elements.{All-push}
 use Rattle.arithmetic.specs.Numbers.{gcd}
 use Rattle.residue.specs.Limits.{IsModulus}
-use Rattle.recover_fraction.specs.CommonResidues.{ArePairwiseCoprime}
+use Rattle.arithmetic.specs.Agreement.{ArePairwiseCoprime}
 use Rattle.problem_toml.specs.Moduli.{modulus_of, moduli_from, coprime_to, coprime_from}
 use Rattle.problem_toml.specs.Steps.{◌>>=◌, keep}
 use Rattle.problem_toml.specs.declared.error.ProblemError.{ProblemError}

@@ -5,9 +5,9 @@ use Rattle.std.specs.List.{list_any, position_from}
 use Rattle.std.proofs.lemmas.Iterator.Adapters.{position_from-zero}
 use Rattle.std.proofs.lemmas.List.Elements.{All-cons, All-nil}
 use Rattle.trees.specs.Decorated.{TreeShape}
-use Rattle.trees.specs.Numbers.{tree_count}
+use Rattle.trees.specs.TreeNumbers.{tree_count}
 use Rattle.decorated_tree.specs.Shapes.{within_limits}
-use Rattle.residue.specs.declared.class.Term.{Term}
+use Rattle.classes.specs.declared.class.Term.{Term}
 use Rattle.residue.specs.declared.setup.SetupError.{SetupError}
 use Rattle.residue.specs.declared.setup.SetupError.TheVariants.{BadCount, BadWeight}
 use Rattle.residue.specs.Limits.{is_beyond_limit, AreWeights}

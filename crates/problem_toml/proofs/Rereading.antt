@@ -13,16 +13,16 @@ use Rattle.toml.specs.Data.{Data, integer, string, array, Members, no_members, m
 use Rattle.toml.specs.Parse.{parse_document}
 use Rattle.arithmetic.specs.Numbers.{gcd}
 use Rattle.trees.specs.Decorated.{TreeShape}
-use Rattle.trees.specs.Numbering.{product_of}
-use Rattle.trees.specs.Numbers.{tree_count}
+use Rattle.lists.specs.Digits.{product_of}
+use Rattle.trees.specs.TreeNumbers.{tree_count}
 use Rattle.decorated_tree.specs.Shapes.{within_limits}
-use Rattle.residue.specs.Classes.{IsClassFor}
+use Rattle.classes.specs.Classes.{IsClassFor}
 use Rattle.residue.specs.Limits.{IsModulus, IsWeight, is_beyond_limit}
-use Rattle.residue.specs.declared.class.Class.{Class}
-use Rattle.residue.specs.declared.class.Class.TheVariants as class
-use Rattle.residue.specs.declared.class.Power.{Power}
-use Rattle.residue.specs.declared.class.Term.{Term}
-use Rattle.recover_fraction.specs.CommonResidues.{ArePairwiseCoprime}
+use Rattle.classes.specs.declared.class.Class.{Class}
+use Rattle.classes.specs.declared.class.Class.TheVariants as class
+use Rattle.classes.specs.declared.class.Power.{Power}
+use Rattle.classes.specs.declared.class.Term.{Term}
+use Rattle.arithmetic.specs.Agreement.{ArePairwiseCoprime}
 use Rattle.problem.specs.Rules.{ProblemView, KeepsRules, IsPower, IsTerm, IsTermOf, IsIntegralOf, dimension_of, powers_degree}
 use Rattle.problem_toml.specs.Classes.{kind_at, power_of, powers_from}
 use Rattle.problem_toml.specs.Header.{WrittenView, written_of, marks_at, lists_fit, bounds_of, header_of}

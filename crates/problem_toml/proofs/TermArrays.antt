@@ -5,8 +5,8 @@ use Rattle.std.proofs.lemmas.List.Elements.{All-push}
 use Rattle.toml.specs.declared.value.Value.{Value}
 use Rattle.toml.specs.Data.{as_table, Members}
 use Rattle.toml.specs.View.{view, items_view}
-use Rattle.residue.specs.declared.class.Power.{Power}
-use Rattle.residue.specs.declared.class.Term.{Term}
+use Rattle.classes.specs.declared.class.Power.{Power}
+use Rattle.classes.specs.declared.class.Term.{Term}
 use Rattle.problem.specs.Rules.{IsPower, IsTerm}
 use Rattle.problem_toml.specs.Classes.{power_of, powers_from}
 use Rattle.problem_toml.specs.Steps.{◌>>=◌}

@@ -2,7 +2,7 @@
 use Rattle.std.specs.Prelude.{ℕ, ◌+◌, ℤ, pos, List, [], ◌∷◌, Option, Some, None, Result, Ok}
 use Rattle.std.specs.Option.{ok_or}
 use Rattle.toml.specs.Data.{Members, get_member}
-use Rattle.residue.specs.declared.class.Power.{Power}
+use Rattle.classes.specs.declared.class.Power.{Power}
 use Rattle.problem_toml.specs.Keys.{key_of}
 use Rattle.problem_toml.specs.Kinds.{kind_of, parameter_key, class_of}
 use Rattle.problem_toml.specs.Steps.{◌>>=◌}

@@ -1,8 +1,8 @@
 -- The problems that a number makes: rational curves of degree 3 or 4 on a quintic threefold.
 use Rattle.std.specs.Prelude.{ℕ, ◌+◌, ◌%◌, ◌^◌, ℤ, pos, List, [], ◌∷◌}
 use Rattle.decorated_tree.specs.Shapes.{shape_of}
-use Rattle.residue.specs.declared.class.Class.TheVariants.{Hypersurface}
-use Rattle.residue.specs.declared.class.Term.{Term}
+use Rattle.classes.specs.declared.class.Class.TheVariants.{Hypersurface}
+use Rattle.classes.specs.declared.class.Term.{Term}
 use Rattle.problem.specs.Rules.{ProblemView}
 
 -- the weights 1, g, g^2, g^3 and g^4

@@ -1,7 +1,7 @@
 -- The integrals of a problem text: the one of a text of version 1, or those that a text of version 2 lists.
 use Rattle.std.specs.Prelude.{ℕ, ◌+◌, ◌-◌, List, [], ◌∷◌, length, Result, Ok}
 use Rattle.toml.specs.Data.{Members}
-use Rattle.residue.specs.declared.class.Term.{Term}
+use Rattle.classes.specs.declared.class.Term.{Term}
 use Rattle.problem_toml.specs.Steps.{◌>>=◌}
 use Rattle.problem_toml.specs.Tables.{present, all_known, tables_at, count_within}
 use Rattle.problem_toml.specs.Terms.{terms_from}

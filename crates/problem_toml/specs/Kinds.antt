@@ -1,8 +1,8 @@
 -- The kinds of classes.
 use Rattle.std.specs.Prelude.{ℕ, ℤ, List, [], ◌∷◌, Option, Some, None, find, Result, Ok, codes}
 use Rattle.std.specs.Str.{bytes_eq}
-use Rattle.residue.specs.declared.class.Class.{Class}
-use Rattle.residue.specs.declared.class.Class.TheVariants as class
+use Rattle.classes.specs.declared.class.Class.{Class}
+use Rattle.classes.specs.declared.class.Class.TheVariants as class
 use Rattle.problem_toml.specs.Steps.{◌>>=◌}
 use Rattle.problem_toml.specs.Tables.{within}
 use Rattle.problem_toml.specs.declared.error.ProblemError.{ProblemError}

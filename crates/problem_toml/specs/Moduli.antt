@@ -1,7 +1,7 @@
 -- The weights, the moduli and the bounds, as the rules that compare them want them.
 use Rattle.std.specs.Prelude.{ℕ, ◌+◌, ◌-◌, ◌*◌, ◌%◌, ◌^◌, ℤ, pos, List, [], ◌∷◌, length, not, Result, Ok, nat_eq, nat_lt, int_lt, min, unsigned_abs}
 use Rattle.arithmetic.specs.Numbers.{gcd}
-use Rattle.trees.specs.Numbering.{product_of}
+use Rattle.lists.specs.Digits.{product_of}
 use Rattle.residue.specs.declared.modulus.ModulusError.TheVariants.{Even, TooSmall, TooLarge}
 use Rattle.problem_toml.specs.Steps.{◌>>=◌, keep}
 use Rattle.problem_toml.specs.declared.error.ProblemError.{ProblemError}

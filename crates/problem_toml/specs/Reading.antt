@@ -5,8 +5,8 @@ use Rattle.std.specs.Str.{is_utf8}
 use Rattle.toml.specs.Data.{Members}
 use Rattle.toml.specs.Parse.{parse_document}
 use Rattle.trees.specs.Decorated.{TreeShape}
-use Rattle.trees.specs.Numbers.{tree_count}
-use Rattle.residue.specs.declared.class.Term.{Term}
+use Rattle.trees.specs.TreeNumbers.{tree_count}
+use Rattle.classes.specs.declared.class.Term.{Term}
 use Rattle.problem.specs.Rules.{ProblemView, dimension_of, powers_degree}
 use Rattle.problem_toml.specs.Header.{WrittenView, written_of, header_of, header_shape}
 use Rattle.problem_toml.specs.Integrals.{integrals_of}

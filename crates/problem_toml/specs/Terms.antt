@@ -1,7 +1,7 @@
 -- The terms of a problem text, which are numbered through all integrals.
 use Rattle.std.specs.Prelude.{ℕ, ◌+◌, ℤ, pos, List, [], ◌∷◌, length, Bool, Result, Ok, nat_le, unsigned_abs}
 use Rattle.toml.specs.Data.{Members, get_member}
-use Rattle.residue.specs.declared.class.Term.{Term}
+use Rattle.classes.specs.declared.class.Term.{Term}
 use Rattle.problem_toml.specs.Classes.{powers_from}
 use Rattle.problem_toml.specs.Keys.{key_of}
 use Rattle.problem_toml.specs.Steps.{◌>>=◌, keep}

@@ -3,7 +3,7 @@
 ghost use Rattle.std.specs.Prelude.{◌≡◌, ◌≤◌, ◌<◌, ◌^◌, ◌-◌, ℕ, false, length, IfOk, OnOk};
 ghost use Rattle.std.specs.List.{list_any};
 ghost use Rattle.toml.specs.View.{table_view};
-ghost use Rattle.trees.specs.Numbers.{tree_count};
+ghost use Rattle.trees.specs.TreeNumbers.{tree_count};
 ghost use Rattle.residue.specs.Limits.{is_beyond_limit};
 ghost use Rattle.problem.specs.Rules.{dimension_of};
 ghost use Rattle.problem_toml.specs.Header.{written_view, written_of, marks_at, lists_fit, bounds_of, header_of, header_shape, IsHeader};

@@ -1,7 +1,7 @@
 //! The kinds of classes.
 
 ghost use Rattle.std.specs.Prelude.{◌≡◌, IfOk};
-ghost use Rattle.residue.specs.Classes.{IsClassFor};
+ghost use Rattle.classes.specs.Classes.{IsClassFor};
 ghost use Rattle.problem_toml.specs.Kinds.{word_of, kinds_of, kind_of, parameter_key, class_of};
 ghost use Rattle.problem_toml.specs.Steps.{GivesSurely};
 

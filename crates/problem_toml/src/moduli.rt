@@ -2,7 +2,7 @@
 
 ghost use Rattle.std.specs.Prelude.{◌≡◌, ◌≤◌, ◌<◌, ◌+◌, ◌^◌, ◌*◌, false, IfOk, OnOk, All, length, drop, slice_index};
 ghost use Rattle.std.specs.List.{list_any};
-ghost use Rattle.trees.specs.Numbering.{product_of};
+ghost use Rattle.lists.specs.Digits.{product_of};
 ghost use Rattle.residue.specs.Limits.{IsModulus, AreWeights, is_beyond_limit};
 ghost use Rattle.problem.specs.Rules.{AreModuli, AreBounds};
 ghost use Rattle.problem_toml.specs.Header.{written_view, IsHeader};

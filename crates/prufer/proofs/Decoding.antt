@@ -1,12 +1,14 @@
 -- The walk of a word's letters, in which each leaf is joined to its letter.
 use Rattle.std.proofs.Common.{◌≡◌, ◌≢◌, ℕ, suc, ◌+◌, ◌-◌, ◌<◌, ◌≤◌, Bool, true, false, ◌||◌, ◌==◌, nat_lt, if◌then◌else◌, Option, Some, None, IsSome, position, List, [], ◌∷◌, length, set, get_or, refl, sym, ap, ◌∙◌, subst, arith, ltb-true, length-set}
 use Rattle.std.proofs.lemmas.Bool.Decides.{nat_tests}
-use Rattle.trees.specs.Edges.{below}
-use Rattle.trees.specs.Words.{is_member, count_in, without, edge_between, insert_edge, first_leaf, decoded_on, decoded, AllDifferent, Fits}
-use Rattle.trees.proofs.WordLaws.{member_head, member_tail, member_of_without, member-without_other, member-without_same, member-below, member_apart, count_absent, count_present, first_leaf_found, fits_step, length-insert_edge}
+use Rattle.lists.specs.Ranges.{below}
+use Rattle.lists.specs.Members.{is_member, count_in, without, AllDifferent}
+use Rattle.trees.specs.Words.{edge_between, insert_edge, first_leaf, decoded_on, decoded, Fits}
+use Rattle.lists.proofs.Different.{member_head, member_tail, member_of_without, member-without_other, member-without_same, member-below, member_apart, count_absent, count_present}
+use Rattle.trees.proofs.DecodedWords.{first_leaf_found, fits_step, length-insert_edge}
 use Rattle.prufer.proofs.Insertions.{insert_all, insert_all-first, insert_all-second}
 use Rattle.prufer.proofs.Leaves.{IsAscending, ascending-without, ascending-below, first_leaf_at, IsFirstOne, no_one}
-use Rattle.prufer.proofs.Counting.{get_or-set, get_or-taken_off}
+use Rattle.prufer.proofs.DegreeCounts.{get_or-set, get_or-taken_off}
 
 -- a remaining vertex has one edge more than the remaining word has its letters
 pub record AreDegrees (vertices rest degrees : List ℕ) : Type 0 where
@@ -140,7 +142,7 @@ decoding_step n word rest degrees made k x s f =
     }
 
 -- ---- the last two vertices
--- the first of the two, and that the other one is the only place with one edge
+-- the first of the two, and that the other one is the only vertex with one edge
 pub record AreLastTwo (vertices degrees : List ℕ) (k : ℕ) : Type 0 where
   pub other : ℕ
   pub two : vertices ≡ k ∷ other ∷ []

@@ -2,13 +2,16 @@
 use Rattle.std.proofs.Common.{◌≡◌, ◌≢◌, ℕ, zero, suc, ◌+◌, ◌-◌, ◌<◌, ◌≤◌, Bool, true, false, ◌||◌, ◌==◌, nat_lt, if◌then◌else◌, None, position, List, [], ◌∷◌, ◌++◌, length, set, get_or, refl, sym, ap, ◌∙◌, subst, arith, ltb-true, length-set, length-append, append_assoc, append-nil}
 use Rattle.std.specs.List.{list_all}
 use Rattle.std.proofs.lemmas.Bool.Decides.{nat_tests}
-use Rattle.trees.specs.Edges.{below}
-use Rattle.trees.specs.Words.{is_member, without, edge_between, touches, degree_of, other_end, neighbour_of, cut_off, first_end, last_edge, encoded_on, encoded, AllDifferent}
-use Rattle.trees.proofs.WordLaws.{AllUpward, IsPruned, edge-other_end, member_of_without, member-below, length-without, different-without, different-below, length-below, touches-between, upward-cut_off}
+use Rattle.lists.specs.Ranges.{below}
+use Rattle.lists.specs.Members.{is_member, without, AllDifferent}
+use Rattle.trees.specs.Words.{edge_between, touches, degree_of, other_end, neighbour_of, cut_off, first_end, last_edge, encoded_on, encoded}
+use Rattle.trees.proofs.PrunedTrees.{AllUpward, IsPruned, edge-other_end, upward-cut_off}
+use Rattle.lists.proofs.Different.{member_of_without, member-below, length-without, different-without, different-below, length-below}
+use Rattle.trees.proofs.DecodedWords.{touches-between}
 use Rattle.trees.proofs.Connected.{EndsAmong, neighbour_member, length-cut_off, ends_without, ends_cut_off, degree-cut_off}
 use Rattle.trees.proofs.TreeLaws.{upward_from, among_from}
 use Rattle.prufer.proofs.Leaves.{IsAscending, ascending-without, ascending-below, first_end_at, IsFirstOne, no_one}
-use Rattle.prufer.proofs.Counting.{get_or-set, get_or-taken_off}
+use Rattle.prufer.proofs.DegreeCounts.{get_or-set, get_or-taken_off}
 use Rattle.prufer.proofs.Trees.{IsEdgeList, upward_and_below}
 
 -- ---- degrees

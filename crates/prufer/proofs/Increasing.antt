@@ -1,4 +1,4 @@
--- Increasing lists of pairs, place by place.
+-- Increasing lists of pairs, index by index.
 use Rattle.std.proofs.Common.{◌≡◌, ℕ, ◌+◌, ◌-◌, ◌<◌, ◌≤◌, true, ◌&&◌, List, [], ◌∷◌, length, drop, get_or, refl, sym, ap, ◌∙◌, arith}
 use Rattle.std.proofs.lemmas.List.{drop_more}
 use Rattle.trees.specs.Edges.{comes_before, is_increasing}
@@ -6,7 +6,7 @@ use Rattle.trees.specs.Edges.{comes_before, is_increasing}
 increasing_pair : (e f : ℕ × ℕ) (es : List (ℕ × ℕ)) → comes_before e f ≡ true → is_increasing (e ∷ f ∷ es) ≡ is_increasing (f ∷ es)
 increasing_pair e f es h = ap (λ b. b && is_increasing (f ∷ es)) h
 
--- where a pair comes before the next one, the list increases from the one on if it does from the other on
+-- if a pair comes before the next one, the list increases from the one on if it does from the other on
 pub increasing-drop : (es : List (ℕ × ℕ)) (p : ℕ) → 1 ≤ p → p < length es → comes_before (get_or es (p - 1) (0, 0)) (get_or es p (0, 0)) ≡ true
     → is_increasing (drop (p + 1 - 1) es) ≡ is_increasing (drop (p - 1) es)
 increasing-drop es p some h before =

@@ -3,7 +3,7 @@ use Rattle.std.proofs.Common.{◌≡◌, ℕ, Bool, true, false, ◌&&◌, ◌||
 use Rattle.std.proofs.lemmas.Bool.Decides.{nat_tests}
 use Rattle.trees.specs.Edges.{comes_before}
 use Rattle.trees.specs.Words.{insert_edge}
-use Rattle.trees.proofs.WordLaws.{before_one_way}
+use Rattle.trees.proofs.PrunedTrees.{before_one_way}
 
 -- the first edges, put into the second ones
 abbrev pub insert_all : List (ℕ × ℕ) → List (ℕ × ℕ) → List (ℕ × ℕ)
@@ -32,7 +32,7 @@ front e g es h = ap (λ (b : Bool). if b then e ∷ g ∷ es else g ∷ insert_e
 past : (e g : ℕ × ℕ) (es : List (ℕ × ℕ)) → comes_before e g ≡ false → insert_edge e (g ∷ es) ≡ g ∷ insert_edge e es
 past e g es h = ap (λ (b : Bool). if b then e ∷ g ∷ es else g ∷ insert_edge e es) h
 
--- two edges at the front of a list
+-- two edges at the start of a list
 both_front : (e f : ℕ × ℕ) (es : List (ℕ × ℕ)) → insert_edge e es ≡ e ∷ es → insert_edge f es ≡ f ∷ es → insert_edge e (f ∷ es) ≡ insert_edge f (e ∷ es)
 both_front e f es p q = cases (comes_before e f) (comes_before f e) refl refl
   where

@@ -4,9 +4,10 @@ use Rattle.std.specs.List.{position_from}
 use Rattle.std.proofs.lemmas.Iterator.Adapters.{position_from-zero}
 use Rattle.std.proofs.lemmas.Bool.{cases_eq}
 use Rattle.std.proofs.lemmas.Bool.Decides.{nat_tests}
-use Rattle.trees.specs.Edges.{below}
-use Rattle.trees.specs.Words.{is_member, without, first_leaf, first_end, degree_of}
-use Rattle.trees.proofs.WordLaws.{member_head, member_tail, member_of_without, member-below}
+use Rattle.lists.specs.Ranges.{below}
+use Rattle.lists.specs.Members.{is_member, without}
+use Rattle.trees.specs.Words.{first_leaf, first_end, degree_of}
+use Rattle.lists.proofs.Different.{member_head, member_tail, member_of_without, member-below}
 
 -- each vertex is below all that follow it
 abbrev pub IsAscending : List ℕ → Type 0
@@ -72,7 +73,7 @@ first_end_at (v ∷ vs) es k a m one before =
     cases false e rest = rest (other_member v k vs m (λ same. absurd (let x : true ≡ false = sym (eq-eqb (degree_of v es) 1 (ap (λ z. degree_of z es) same ∙ one)) ∙ e in cc)))
 
 -- ---- by a list of degrees
--- the first place that holds 1
+-- the first index that holds 1
 pub record IsFirstOne (ds : List ℕ) (k : ℕ) : Type 0 where
   pub below : k < length ds
   pub is : get_or ds k 0 ≡ 1

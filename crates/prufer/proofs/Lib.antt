@@ -1,7 +1,7 @@
 pub mod Increasing
 pub mod Insertions
 pub mod Leaves
-pub mod Counting
+pub mod DegreeCounts
 pub mod Trees
 pub mod Decoding
 pub mod Encoding

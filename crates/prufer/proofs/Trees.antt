@@ -1,11 +1,16 @@
 -- Words, trees and lists of edges.
 use Rattle.std.proofs.Common.{◌≡◌, ℕ, ◌+◌, ◌-◌, ◌<◌, ◌≤◌, Bool, true, false, ◌&&◌, ◌||◌, ◌==◌, nat_lt, List, [], ◌∷◌, length, All, refl, sym, ap, ◌∙◌, arith, ltb-true, leb-true, le-leb, eqb-true}
+use Rattle.std.proofs.lemmas.Bool.{and_from, and_parts}
 use Rattle.std.specs.List.{AllByRecursion, list_all}
 use Rattle.std.proofs.lemmas.List.Elements.{recursion_from_All, All-from_recursion}
 use Rattle.std.proofs.lemmas.Bool.Decides.{nat_tests}
-use Rattle.trees.specs.Edges.{below, is_increasing, is_tree}
-use Rattle.trees.specs.Words.{is_member, decoded, encoded, decoded_on, encoded_on, Fits}
-use Rattle.trees.proofs.WordLaws.{IsPruned, decoded_on-encoded_on, encoded_on-decoded_on, length-below, different-below, member-below, member_head, member_tail, fits-below}
+use Rattle.lists.specs.Ranges.{below}
+use Rattle.trees.specs.Edges.{is_increasing, is_tree}
+use Rattle.lists.specs.Members.{is_member}
+use Rattle.trees.specs.Words.{decoded, encoded, decoded_on, encoded_on, Fits}
+use Rattle.trees.proofs.PrunedTrees.{IsPruned, decoded_on-encoded_on}
+use Rattle.trees.proofs.DecodedWords.{encoded_on-decoded_on, fits-below}
+use Rattle.lists.proofs.Different.{length-below, different-below, member-below, member_head, member_tail}
 use Rattle.trees.proofs.Connected.{pruned}
 use Rattle.trees.proofs.TreeLaws.{tree_from, tree-decoded, decodes-encoded, decoded-encoded, upward_from}
 use Rattle.prufer.specs.EdgeLists.{is_edge_list}
@@ -23,7 +28,7 @@ letters_from : (n : ℕ) (w : List ℕ) → ((x : ℕ) → is_member x w ≡ tru
 letters_from n [] h = tt
 letters_from n (x ∷ w) h = (h x (member_head x w), letters_from n w (λ y m. h y (member_tail y x w m)))
 
--- a word fits the vertices below n exactly where it has n - 2 letters below n
+-- a word fits the vertices below n exactly if it has n - 2 letters below n
 pub fits_word : (n : ℕ) (w : List ℕ) → length w + 2 ≡ n → All (λ x. x < n) w → Fits (below n) w
 fits_word n w e h = fits-below n w e (λ x m. member_letter n x w (recursion_from_All (λ v. v < n) w h) m)
 
@@ -64,31 +69,23 @@ word_of_tree n es w least t e =
     })
 
 -- ---- lists of edges
-both : (a b : Bool) → (a && b) ≡ true → (a ≡ true) × (b ≡ true)
-both true true h = (refl, refl)
-both true false h = cc
-both false b h = cc
-
-join : (a b : Bool) → a ≡ true → b ≡ true → (a && b) ≡ true
-join a b h k = grind arith
-
 upward_only : (n : ℕ) (es : List (ℕ × ℕ)) → list_all (λ e. nat_lt e.0 e.1 && nat_lt e.1 n) es ≡ true → list_all (λ e. nat_lt e.0 e.1) es ≡ true
 upward_only n [] h = refl
-upward_only n (e ∷ es) h = let p = both _ _ h in join _ _ (both _ _ p.0).0 (upward_only n es p.1)
+upward_only n (e ∷ es) h = let p = and_parts _ _ h in and_from _ _ (and_parts _ _ p.0).0 (upward_only n es p.1)
 
 below_only : (n : ℕ) (es : List (ℕ × ℕ)) → list_all (λ e. nat_lt e.0 e.1 && nat_lt e.1 n) es ≡ true → list_all (λ e. nat_lt e.1 n) es ≡ true
 below_only n [] h = refl
-below_only n (e ∷ es) h = let p = both _ _ h in join _ _ (both _ _ p.0).1 (below_only n es p.1)
+below_only n (e ∷ es) h = let p = and_parts _ _ h in and_from _ _ (and_parts _ _ p.0).1 (below_only n es p.1)
 
 pub upward_and_below : (n : ℕ) (es : List (ℕ × ℕ)) → list_all (λ e. nat_lt e.0 e.1) es ≡ true → list_all (λ e. nat_lt e.1 n) es ≡ true
     → list_all (λ e. nat_lt e.0 e.1 && nat_lt e.1 n) es ≡ true
 upward_and_below n [] h k = refl
-upward_and_below n (e ∷ es) h k = let p = both _ _ h in let q = both _ _ k in join _ _ (join _ _ p.0 q.0) (upward_and_below n es p.1 q.1)
+upward_and_below n (e ∷ es) h k = let p = and_parts _ _ h in let q = and_parts _ _ k in and_from _ _ (and_from _ _ p.0 q.0) (upward_and_below n es p.1 q.1)
 
 -- a limit that is further out
 pub below_more : (n m : ℕ) (es : List (ℕ × ℕ)) → n ≤ m → list_all (λ e. nat_lt e.0 e.1 && nat_lt e.1 n) es ≡ true → list_all (λ e. nat_lt e.0 e.1 && nat_lt e.1 m) es ≡ true
 below_more n m [] h k = refl
-below_more n m (e ∷ es) h k = let p = both _ _ k in join _ _ (join _ _ (both _ _ p.0).0 (further e.1 (both _ _ p.0).1)) (below_more n m es h p.1)
+below_more n m (e ∷ es) h k = let p = and_parts _ _ k in and_from _ _ (and_from _ _ (and_parts _ _ p.0).0 (further e.1 (and_parts _ _ p.0).1)) (below_more n m es h p.1)
   where
     further : (v : ℕ) → nat_lt v n ≡ true → nat_lt v m ≡ true
     further v t = grind (arith, nat_tests)
@@ -101,24 +98,24 @@ pub record IsEdgeList (es : List (ℕ × ℕ)) : Type 0 where
 
 pub edge_list : (es : List (ℕ × ℕ)) → is_edge_list es ≡ true → IsEdgeList es
 edge_list es h =
-    let p = both _ _ h in
-    let q = both _ _ p.0 in
+    let p = and_parts _ _ h in
+    let q = and_parts _ _ p.0 in
     record { short = leb-true (length es) 10 q.0; increasing = q.1; upward = p.1 }
 
 -- a tree on at most 11 vertices is a list of edges
 pub edge_list-tree : (n : ℕ) (es : List (ℕ × ℕ)) → n ≤ 11 → is_tree n es ≡ true → is_edge_list es ≡ true
 edge_list-tree n es most t =
-    let p = both _ _ t in
-    let q = both _ _ p.0 in
-    let set = both _ _ q.0 in
-    join _ _ (join _ _ (le-leb (length es) 10 (let c = eqb-true (length es + 1) n q.1 in omega arith)) set.0) (upward_only n es set.1)
+    let p = and_parts _ _ t in
+    let q = and_parts _ _ p.0 in
+    let set = and_parts _ _ q.0 in
+    and_from _ _ (and_from _ _ (le-leb (length es) 10 (let c = eqb-true (length es + 1) n q.1 in omega arith)) set.0) (upward_only n es set.1)
 
 -- what each tree is: one edge less than vertices, and ends below n
 pub can_be_tree : (n : ℕ) (es : List (ℕ × ℕ)) → is_tree n es ≡ true → ((length es + 1 == n) && list_all (λ e. nat_lt e.1 n) es) ≡ true
 can_be_tree n es t =
-    let p = both _ _ t in
-    let q = both _ _ p.0 in
-    join _ _ q.1 (below_only n es (both _ _ q.0).1)
+    let p = and_parts _ _ t in
+    let q = and_parts _ _ p.0 in
+    and_from _ _ q.1 (below_only n es (and_parts _ _ q.0).1)
 
 -- ---- trees are what is taken apart leaf by leaf
 pub pruned-tree : (n : ℕ) (es : List (ℕ × ℕ)) → 2 ≤ n → is_tree n es ≡ true → IsPruned (n - 2) (below n) es

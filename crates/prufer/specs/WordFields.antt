@@ -1,6 +1,7 @@
 -- The fields of a `Word`, given back by its letters.
 use Rattle.std.specs.Prelude.{◌≡◌, ℕ, List, length, take}
-use Rattle.trees.specs.Padding.{padded, IsPadded, length-front, padded-take}
+use Rattle.lists.specs.Padding.{padded, IsPadded}
+use Rattle.lists.proofs.Padding.{length-front, padded-take}
 use Rattle.prufer.specs.declared.word.Word.TheInside.{Inside}
 
 abbrev pub fields_of : List ℕ → Inside

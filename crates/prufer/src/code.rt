@@ -43,7 +43,7 @@ pub fn decode(n: u8, word: &Word) -> Edges
     Edges::from_pairs(edges.with(edge_between(first, last)))
 }
 
-/// The word of a tree on the vertices 0 to `n` - 1, or [`NotATree`] exactly where the edges are none.
+/// The word of a tree on the vertices 0 to `n` - 1, or [`NotATree`] exactly if the edges are none.
 ///
 /// `n` is from 2 to 11. While more than two vertices remain, the number of the neighbour of the smallest leaf is
 /// written, and the leaf is removed (Prüfer 1918). The word is the only one that decodes to the edges.
@@ -68,7 +68,7 @@ pub fn encode(n: u8, edges: &Edges) -> Result<Word, NotATree>
     word_of(n, pairs).ok_or(NotATree)
 }
 
-/// The word of the edges if they are a tree, where their number and their ends are those of one.
+/// The word of the edges if they are a tree. Their number and their ends are those of a tree.
 fn word_of(n: u8, edges: Pairs) -> Option<Word>
     requires least { 2 ≤ n }
     requires most { n ≤ 11 }

@@ -2,7 +2,8 @@
 
 ghost use Rattle.std.specs.Prelude.{◌≡◌, ℕ, suc, ◌<◌, ◌≤◌, ◌==◌, ◌&&◌, nat_lt, if◌then◌else◌, length, position, slice_index, All, IfSome, IsTrue};
 ghost use Rattle.std.specs.List.{list_all};
-ghost use Rattle.trees.specs.Words.{count_in, degree_of};
+ghost use Rattle.lists.specs.Members.{count_in};
+ghost use Rattle.trees.specs.Words.{degree_of};
 
 /// The degrees in the tree of a word on `n` vertices: a vertex has one edge more than the word has its letters.
 pub(crate) fn degrees_of_word(n: u8, letters: &[u8]) -> [u8; 11]
@@ -44,7 +45,7 @@ pub(crate) fn first_leaf(degrees: &[u8; 11]) -> Option<u8>
     Some(place as u8)
 }
 
-/// The first place that holds 1.
+/// The first index that holds 1.
 fn place_of_one(degrees: &[u8; 11]) -> Option<usize>
     ensures first { result ≡ position (λ degree. degree == 1) degrees.now }
     ensures within { IfSome result (λ place. place < 11) }

@@ -60,7 +60,7 @@ impl Edges {
         self.as_slice().is_empty()
     }
 
-    /// The edge at a place, counted from 0, with its smaller end first.
+    /// The edge at an index, counted from 0, with its smaller end first.
     pub fn pair(&self, place: usize) -> (u8, u8)
         requires { place < length self.now }
         ensures value { slice_get self.now place ≡ Some result }

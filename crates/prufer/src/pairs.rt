@@ -15,7 +15,7 @@ pub(crate) struct Pairs {
 
 impl Model for Pairs {
     ghost use Rattle.std.specs.Prelude.{ℕ, List, take};
-    ghost use Rattle.trees.specs.Padding.{IsPadded};
+    ghost use Rattle.lists.specs.Padding.{IsPadded};
 
     ghost Value = { List (ℕ × ℕ) };
 

@@ -3,7 +3,7 @@
 use crate::{Edges, NotATree, Word, decode, encode};
 use std::test::Fail;
 
-/// The tree of a word, where the word fits the number of vertices.
+/// The tree of a word, if the word fits the number of vertices.
 fn tree_of(n: u8, word: &Word) -> Option<Edges> {
     if n < 2 || n > 11 || word.len() + 2 != n as usize {
         return None;
@@ -14,7 +14,7 @@ fn tree_of(n: u8, word: &Word) -> Option<Edges> {
     Some(decode(n, word))
 }
 
-/// The word of a tree, where the number of vertices is within its limits.
+/// The word of a tree, if the number of vertices is within its limits.
 fn word_of(n: u8, edges: &Edges) -> Option<Result<Word, NotATree>> {
     if n < 2 || n > 11 {
         return None;

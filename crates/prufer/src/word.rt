@@ -16,7 +16,7 @@ pub struct Word {
 
 impl Model for Word {
     ghost use Rattle.std.specs.Prelude.{ℕ, List, take};
-    ghost use Rattle.trees.specs.Padding.{IsPadded};
+    ghost use Rattle.lists.specs.Padding.{IsPadded};
 
     ghost Value = { List ℕ };
 
@@ -64,7 +64,7 @@ impl Word {
         self.count == 0
     }
 
-    /// The letter at a place, counted from 0.
+    /// The letter at an index, counted from 0.
     pub fn letter(&self, place: usize) -> u8
         requires { place < length self.now }
         ensures { slice_get self.now place ≡ Some result }

@@ -9,10 +9,10 @@ use Rattle.std.proofs.lemmas.Nat.{div-mul-add, mod-mul-add, mul-add-lt, div_belo
 use Rattle.arithmetic.specs.Numbers.{gcd}
 use Rattle.arithmetic.specs.Fractions.{Fraction, IsResidue}
 use Rattle.residue.specs.Answers.{GivesResidue}
-use Rattle.residue.specs.declared.class.Term.{Term}
+use Rattle.classes.specs.declared.class.Term.{Term}
 use Rattle.residue.specs.declared.errors.NoUnit.{NoUnit}
 use Rattle.trees.specs.Decorated.{DecoratedTree, TreeShape}
-use Rattle.trees.specs.Numbers.{tree_of}
+use Rattle.trees.specs.TreeNumbers.{tree_of}
 use Rattle.localisation.specs.Contribution.{contribution}
 use Rattle.localisation.specs.Agreement.{lacks_residue, is_bad_for, is_bad_number, modulus_at, integral_at}
 

@@ -4,16 +4,16 @@ use Rattle.std.proofs.lemmas.List.{get_or-replicate}
 use Rattle.std.proofs.Math.Nat.{mod-eq_of_lt}
 use Rattle.arithmetic.specs.Numbers.{gcd}
 use Rattle.arithmetic.specs.Fractions.{Fraction, fraction, plus, IsResidue}
-use Rattle.arithmetic.proofs.NumberLaws.{reduce-pos}
+use Rattle.arithmetic.proofs.ReduceLaws.{reduce-pos}
 use Rattle.arithmetic.proofs.Residues.{unit_first, unit_second, unit_one, unit-*ℤ, IsResidue-plus}
 use Rattle.trees.specs.Decorated.{TreeShape, DecoratedTree}
-use Rattle.trees.specs.Numbers.{tree_of}
+use Rattle.trees.specs.TreeNumbers.{tree_of}
 use Rattle.residue.specs.Ratios.{IsRatioOf}
-use Rattle.residue.specs.declared.class.Term.{Term}
+use Rattle.classes.specs.declared.class.Term.{Term}
 use Rattle.residue.specs.declared.ratio.Ratio.{Ratio}
 use Rattle.localisation.specs.Contribution.{contribution, partial_sum}
 use Rattle.localisation.specs.Agreement.{lacks_residue, modulus_at, integral_at, NoneBad}
-use Rattle.localisation.proofs.Sums.{partial_sum-none, partial_sum-next, partial_sum-cut}
+use Rattle.localisation.proofs.PartialSums.{partial_sum-none, partial_sum-next, partial_sum-cut}
 use Rattle.problem.specs.declared.problem.Problem.{Problem}
 use Rattle.problem.specs.Problems.{view}
 use Rattle.problem.specs.Sums.{is_bad_of, places_of, ArePartialSums}

@@ -5,12 +5,12 @@ use Rattle.std.proofs.lemmas.List.Elements.{All-weaker}
 use Rattle.std.proofs.lemmas.List.Sums.{sum-map, sum_by-cons}
 use Rattle.std.proofs.lemmas.Option.{get_or_from_slice_get, slice_get_within}
 use Rattle.trees.specs.Decorated.{TreeShape}
-use Rattle.residue.specs.declared.class.Class.{Class}
-use Rattle.residue.specs.declared.class.Class.TheVariants.{Mark, Hypersurface, Incidence, R1, Contact, Psi}
-use Rattle.residue.specs.declared.class.Power.{Power}
-use Rattle.residue.specs.declared.class.Term.{Term}
-use Rattle.residue.specs.Classes.{IsPowerFor}
-use Rattle.residue.specs.Degrees.{class_degree}
+use Rattle.classes.specs.declared.class.Class.{Class}
+use Rattle.classes.specs.declared.class.Class.TheVariants.{Mark, Hypersurface, Incidence, R1, Contact, Psi}
+use Rattle.classes.specs.declared.class.Power.{Power}
+use Rattle.classes.specs.declared.class.Term.{Term}
+use Rattle.classes.specs.Classes.{IsPowerFor}
+use Rattle.classes.specs.Degrees.{class_degree}
 use Rattle.localisation.specs.ClassValue.{psi_power}
 use Rattle.decorated_tree.specs.declared.tree.Tree.{Tree}
 use Rattle.decorated_tree.specs.Shapes.{within_limits}

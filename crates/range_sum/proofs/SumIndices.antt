@@ -9,7 +9,7 @@ use Rattle.std.proofs.lemmas.Nat.{div-mul-add, mod-mul-add, mul-add-lt}
 use Rattle.arithmetic.specs.Fractions.{Fraction, plus}
 use Rattle.residue.specs.Answers.{GivesResidue}
 use Rattle.residue.specs.Ratios.{IsRatioOf}
-use Rattle.residue.specs.declared.class.Term.{Term}
+use Rattle.classes.specs.declared.class.Term.{Term}
 use Rattle.residue.specs.declared.errors.NoUnit.{NoUnit}
 use Rattle.residue.specs.declared.ratio.Ratio.{Ratio}
 use Rattle.trees.specs.Decorated.{DecoratedTree}

@@ -2,7 +2,7 @@
 use Rattle.std.specs.Prelude.{◌≡◌, ℕ, ◌+◌, ◌*◌, ◌%◌, ◌<◌, List, length, slice_index_or}
 use Rattle.arithmetic.specs.Fractions.{Fraction, plus, IsResidue}
 use Rattle.residue.specs.Ratios.{IsRatioOf}
-use Rattle.residue.specs.declared.class.Term.{Term}
+use Rattle.classes.specs.declared.class.Term.{Term}
 use Rattle.residue.specs.declared.ratio.Ratio.{Ratio}
 use Rattle.localisation.specs.Agreement.{modulus_at, integral_at}
 

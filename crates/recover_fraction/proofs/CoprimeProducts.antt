@@ -4,10 +4,10 @@ use Rattle.std.proofs.Math.Nat.{div-add-mod, mod-lt, mul-pos}
 use Rattle.arithmetic.specs.Numbers.{gcd, reduce}
 use Rattle.arithmetic.proofs.Congruences.{Same, same_of_eq, same_sym, same_trans, same_multiple, same_cancel}
 use Rattle.arithmetic.proofs.Divisors.{IsUnit-from_gcd, gcd-from_IsUnit, gcd_comm, gcd-mod, gcd-zero, cancel_unit}
-use Rattle.arithmetic.proofs.NumberLaws.{reduce-pos, reduce-negsuc}
+use Rattle.arithmetic.proofs.ReduceLaws.{reduce-pos, reduce-negsuc}
 use Rattle.arithmetic.proofs.Residues.{IsUnit-mul, unit_one}
-use Rattle.trees.specs.Numbering.{product_of}
-use Rattle.recover_fraction.proofs.Signs.{completing}
+use Rattle.lists.specs.Digits.{product_of}
+use Rattle.recover_fraction.proofs.SignedResidues.{completing}
 
 pub gcd-mod_left : (a m : ℕ) → gcd (a % m) m ≡ gcd a m
 gcd-mod_left a m = gcd_comm (a % m) m ∙ gcd-mod a m

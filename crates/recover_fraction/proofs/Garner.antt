@@ -5,14 +5,14 @@ use Rattle.std.proofs.Math.Nat.{mod-lt, div-add-mod, mul-mod_left, mul-le-mul_le
 use Rattle.arithmetic.specs.Numbers.{gcd, reduce}
 use Rattle.arithmetic.proofs.Congruences.{Same, same_refl, same_of_eq, same_sym, same_trans, same_add, same_mul, same_mod, same_multiple}
 use Rattle.arithmetic.proofs.Residues.{unit_one}
-use Rattle.arithmetic.proofs.NumberLaws.{same_from_divides, divides_from_same, reduce-pos, reduce_below}
-use Rattle.localisation.specs.Agreement.{Agrees}
-use Rattle.recover_fraction.specs.Agreement.{AgreesModulo, KeepsAgreement}
-use Rattle.trees.specs.Numbering.{product_of}
-use Rattle.recover_fraction.specs.CommonResidues.{ArePairwiseCoprime, AreResiduesFor, IsCombination}
+use Rattle.arithmetic.proofs.ReduceLaws.{same_from_divides, divides_from_same, reduce-pos, reduce_below}
+use Rattle.arithmetic.specs.Agreement.{Agrees, AgreesModulo, ArePairwiseCoprime}
+use Rattle.recover_fraction.specs.Agreement.{KeepsAgreement}
+use Rattle.lists.specs.Digits.{product_of}
+use Rattle.recover_fraction.specs.CommonResidues.{AreResiduesFor, IsCombination}
 use Rattle.recover_fraction.proofs.CoprimeProducts.{coprime_product, same_product, same_of_multiple, reduce_of_multiple, product_positive}
 
--- the number so far and the product so far, after the moduli below a place
+-- the number so far and the product so far, after the moduli below an index
 pub record IsSoFar (ms xs : List ℕ) (place number product : ℕ) : Type 0 where
   pub whole : product * product_of (drop place ms) ≡ product_of ms
   pub below : number < product

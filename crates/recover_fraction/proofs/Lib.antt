@@ -1,6 +1,6 @@
 pub mod Multiples
-pub mod Signs
-pub mod Euclid
+pub mod SignedResidues
+pub mod EuclidSteps
 pub mod OnlyPair
 pub mod Stops
 pub mod CoprimeProducts

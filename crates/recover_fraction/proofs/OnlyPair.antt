@@ -5,13 +5,13 @@ use Rattle.std.proofs.Math.Nat.{dvd-mul_left, eq-one_of_dvd-one}
 use Rattle.arithmetic.specs.Numbers.{gcd}
 use Rattle.arithmetic.proofs.Congruences.{Same, same_refl, same_sym, same_trans, same_add}
 use Rattle.arithmetic.proofs.Divisors.{gcd_is}
-use Rattle.recover_fraction.specs.Agreement.{AgreesModulo}
+use Rattle.arithmetic.specs.Agreement.{AgreesModulo}
 use Rattle.recover_fraction.proofs.Multiples.{multiple_of, apart_by}
-use Rattle.recover_fraction.proofs.Signs.{IsTimes, plus, minus, signed, size_of_signed, across_same, across_other, times_from_divides, divides_from_times}
+use Rattle.recover_fraction.proofs.SignedResidues.{IsTimes, plus, minus, signed, size_of_signed, across_same, across_other, times_from_divides, divides_from_times}
 use Rattle.recover_fraction.proofs.Stops.{IsRun}
-use Rattle.recover_fraction.proofs.Euclid.{IsStep, same_sign, not_below, other_sign, other_sign_above}
+use Rattle.recover_fraction.proofs.EuclidSteps.{IsStep, same_sign, not_below, other_sign, other_sign_above}
 
--- where the algorithm stops: its last two remainders are multiples of x, of different signs
+-- what the algorithm stops at: its last two remainders are multiples of x, of different signs
 pub record IsStop (m x a b last next last_factor next_factor : ℕ) (negative : Bool) : Type 0 where
   pub step : IsStep m a b last next last_factor next_factor
   pub next_is : IsTimes m x next next_factor negative
@@ -78,7 +78,7 @@ module _ (m x a b last next last_factor next_factor : ℕ) where
       let both = same true h (suc n) q t g.top_within g.bottom_within g.lowest in
       (ap (signed true) both.0, both.1)
 
-  -- the pair agrees where its bottom is within the bound and it is in lowest terms
+  -- the pair agrees if its bottom is within the bound and it is in lowest terms
   pub agrees : (s : Bool) → IsStop m x a b last next last_factor next_factor s → 1 ≤ next_factor → next_factor ≤ b → gcd next next_factor ≡ 1
       → AgreesModulo m x a b (signed s next) next_factor
   agrees s h positive within lowest = record {
@@ -97,7 +97,7 @@ stop m x a b larger smaller of_larger of_smaller s r h l = record {
   last_is = r.larger_is;
 }
 
--- where some pair agrees, the bottom found is within the bound and the pair found is in lowest terms
+-- if some pair agrees, the bottom found is within the bound and the pair found is in lowest terms
 pub needed : (m x a b last next last_factor next_factor : ℕ) (s : Bool) (p : ℤ) (q : ℕ) → IsStop m x a b last next last_factor next_factor s
     → AgreesModulo m x a b p q → (next_factor ≤ b) × (gcd next next_factor ≡ 1)
 needed m x a b last next last_factor next_factor s p q h g =

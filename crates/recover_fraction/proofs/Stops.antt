@@ -1,8 +1,8 @@
--- The algorithm of Euclid on m and x, from its start to where it first falls to the bound.
+-- The algorithm of Euclid on m and x, from its start to the first remainder that is at most the bound.
 use Rattle.std.proofs.Common.{◌≡◌, ℕ, zero, suc, ◌+◌, ◌*◌, ◌/◌, ◌%◌, ◌<◌, ◌≤◌, Bool, true, false, not, ap, arith}
 use Rattle.std.proofs.Math.Nat.{div-add-mod, mod-lt, le-mul_of_pos_right}
 use Rattle.arithmetic.proofs.Congruences.{same_of_eq, same_trans, same_multiple}
-use Rattle.recover_fraction.proofs.Signs.{IsTimes, plus, minus, times_step}
+use Rattle.recover_fraction.proofs.SignedResidues.{IsTimes, plus, minus, times_step}
 
 -- what two remainders in a row are
 pub record IsRun (m x a larger smaller of_larger of_smaller : ℕ) (negative : Bool) : Type 0 where

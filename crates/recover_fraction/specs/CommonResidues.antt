@@ -1,11 +1,6 @@
 -- Numbers with given residues modulo several moduli.
 use Rattle.std.specs.Prelude.{◌≡◌, ℕ, ◌%◌, ◌<◌, List, length, slice_index}
-use Rattle.arithmetic.specs.Numbers.{gcd}
-use Rattle.trees.specs.Numbering.{product_of}
-
--- only 1 divides two of the moduli
-abbrev pub ArePairwiseCoprime : List ℕ → Type 0
-ArePairwiseCoprime ms = (i j : ℕ) → i < j → j < length ms → gcd (slice_index ms i) (slice_index ms j) ≡ 1
+use Rattle.lists.specs.Digits.{product_of}
 
 -- there is a residue for each modulus, and below it
 pub record AreResiduesFor (ms xs : List ℕ) : Type 0 where

@@ -2,10 +2,10 @@
 
 ghost use Rattle.std.specs.Prelude.{◌≡◌, ℕ, ◌+◌, ◌*◌, ◌%◌, ◌^◌, ◌<◌, ◌≤◌, ◌↔◌, ℤ, IfSome, IsNone};
 ghost use Rattle.arithmetic.specs.Numbers.{gcd};
-ghost use Rattle.localisation.specs.Agreement.{Agrees};
+ghost use Rattle.arithmetic.specs.Agreement.{Agrees, ArePairwiseCoprime};
 ghost use Rattle.recover_fraction.specs.Agreement.{KeepsAgreement};
-ghost use Rattle.trees.specs.Numbering.{product_of};
-ghost use Rattle.recover_fraction.specs.CommonResidues.{ArePairwiseCoprime, AreResiduesFor, IsCombination};
+ghost use Rattle.lists.specs.Digits.{product_of};
+ghost use Rattle.recover_fraction.specs.CommonResidues.{AreResiduesFor, IsCombination};
 
 use crate::recovery::{Fraction, recover};
 use residue::{Moduli, Modulus, Residues};
@@ -14,7 +14,7 @@ use residue::{Moduli, Modulus, Residues};
 /// is 0.
 ///
 /// The moduli are pairwise coprime, with a product below 2^126. There are as many residues, each below its modulus.
-/// A fraction agrees with the residues exactly where it agrees with this number modulo the product.
+/// A fraction agrees with the residues exactly if it agrees with this number modulo the product.
 pub fn combine(moduli: &Moduli, residues: &Residues) -> u128
     requires residues { AreResiduesFor moduli.now residues.now }
     requires coprime { ArePairwiseCoprime moduli.now }
@@ -37,7 +37,7 @@ pub fn combine_slice(moduli: &Moduli, residues: &[u64]) -> u128
 }
 
 /// The only fraction in lowest terms that has each residue modulo its modulus, with a top of size at most `a` and a
-/// bottom from 1 to `b`. It is `None` exactly where there is none.
+/// bottom from 1 to `b`. It is `None` exactly if there is none.
 ///
 /// The moduli are pairwise coprime, with a product below 2^126. There are as many residues, each below its modulus.
 /// Both bounds are from 1 to 2^62 - 1, and 2 `a` `b` is below the product of the moduli.

@@ -1,7 +1,7 @@
 //! A fraction from its residue, by the extended algorithm of Euclid.
 
 ghost use Rattle.std.specs.Prelude.{◌≡◌, ℕ, ◌*◌, ◌^◌, ◌<◌, ◌≤◌, ◌↔◌, ℤ, pos, neg_ℤ, IfSome, IsNone, if◌then◌else◌};
-ghost use Rattle.recover_fraction.specs.Agreement.{AgreesModulo};
+ghost use Rattle.arithmetic.specs.Agreement.{AgreesModulo};
 
 use residue::coprime;
 
@@ -13,7 +13,7 @@ pub struct Fraction {
 }
 
 /// The only fraction in lowest terms that has the residue `x` modulo `m`, with a top of size at most `a` and a bottom
-/// from 1 to `b`: `m` divides `bottom * x - top`. It is `None` exactly where there is none.
+/// from 1 to `b`: `m` divides `bottom * x - top`. It is `None` exactly if there is none.
 ///
 /// `x` is below `m`, both bounds are from 1 to 2^62 - 1, and 2 `a` `b` is below `m`.
 ///

@@ -6,7 +6,7 @@ use Rattle.std.proofs.lemmas.Bool.{cases_lt}
 use Rattle.localisation.specs.Agreement.{modulus_at, integral_at}
 use Rattle.recover_fraction.specs.CommonResidues.{AreResiduesFor}
 use Rattle.recover_fraction.specs.declared.recovery.Fraction.{Fraction}
-use Rattle.residue.specs.declared.class.Term.{Term}
+use Rattle.classes.specs.declared.class.Term.{Term}
 use Rattle.problem.specs.Rules.{ProblemView}
 use Rattle.problem.specs.Sums.{places_of}
 use Rattle.report.specs.Fractions.{residues_of, AreReduced, IsOnlyFraction, AreFractions}

@@ -6,7 +6,7 @@ use Rattle.arithmetic.specs.Numbers.{gcd, reduce}
 use Rattle.arithmetic.specs.Fractions as unreduced
 use Rattle.arithmetic.proofs.Congruences.{Same, same_refl, same_of_eq, same_sym, same_trans, same_mul, same_mod}
 use Rattle.arithmetic.proofs.Divisors.{cancel_unit}
-use Rattle.arithmetic.proofs.NumberLaws.{reduce-*ℤ, reduce-pos, reduce_below, divides_from_same}
+use Rattle.arithmetic.proofs.ReduceLaws.{reduce-*ℤ, reduce-pos, reduce_below, divides_from_same}
 use Rattle.arithmetic.proofs.Residues.{gcd-reduce, residue_equation}
 use Rattle.recover_fraction.specs.declared.recovery.Fraction.{Fraction}
 use Rattle.report.specs.Fractions.{IsInLowestTerms}

@@ -2,7 +2,8 @@
 use Rattle.std.specs.Prelude.{◌≡◌, ℕ, ◌*◌, ◌<◌, ◌≤◌, ◌↔◌, pos, ◌*ℤ◌, nat_abs, List, [], length, take, drop, slice_index, get_or, Option, Some, None}
 use Rattle.arithmetic.specs.Numbers.{gcd}
 use Rattle.arithmetic.specs.Fractions as unreduced
-use Rattle.localisation.specs.Agreement.{Agrees, modulus_at}
+use Rattle.arithmetic.specs.Agreement.{Agrees}
+use Rattle.localisation.specs.Agreement.{modulus_at}
 use Rattle.localisation.specs.Contribution.{kontsevich_sum}
 use Rattle.recover_fraction.specs.declared.recovery.Fraction.{Fraction}
 use Rattle.problem.specs.Rules.{ProblemView}

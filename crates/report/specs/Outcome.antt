@@ -1,8 +1,8 @@
 -- What the sum of a problem comes to.
 use Rattle.std.specs.Prelude.{◌≡◌, ℕ, ◌≤◌, true, List}
 use Rattle.trees.specs.Decorated.{DecoratedTree, all_trees}
-use Rattle.trees.specs.Members.{IsIn}
-use Rattle.trees.specs.Numbers.{tree_of, number_of}
+use Rattle.lists.specs.Members.{IsIn}
+use Rattle.trees.specs.TreeNumbers.{tree_of, number_of}
 use Rattle.localisation.specs.Agreement.{IsLeastBad, IsFirstBad}
 use Rattle.problem.specs.Rules.{ProblemView}
 use Rattle.problem.specs.Sums.{count_of, is_bad_of, is_bad_tree_of, is_bad_modulo, HasBadTree, AreKontsevichSums}

@@ -38,7 +38,7 @@ power_of_one m x n h e = sym (rw e (ap (λ y. y % m) (one_to n) ∙ mod-eq_of_lt
 pub below_by : (m self next z : ℕ) → m ≡ self → next ≡ z % self → 0 < m → next < m
 below_by m self next z e f h = rw (f, ← e) (mod-lt z h)
 
--- one step of the extended algorithm, where the modulus is read at two places
+-- one step of the extended algorithm, whose modulus is read twice
 pub inverse_step_at : (m self x a b q s t product next : ℕ) → m ≡ self → t < m → (s * x) % m ≡ a % m → (t * x) % m ≡ b % m
     → q ≡ a / b % self → product ≡ (q * t) % self → next ≡ (s + (self - product)) % self → (next * x) % m ≡ (a % b) % m
 inverse_step_at m self x a b q s t product next e below hs ht hq f g =

@@ -4,7 +4,7 @@ use Rattle.arithmetic.specs.Numbers.{gcd}
 use Rattle.arithmetic.specs.Fractions.{Fraction, IsResidue}
 use Rattle.residue.specs.declared.errors.NoUnit.{NoUnit}
 
--- the residue of a fraction modulo m, or that there is none, exactly where its bottom is no unit
+-- the residue of a fraction modulo m, or that there is none, exactly if its bottom is no unit
 pub record GivesResidue (m : ℕ) (f : Fraction) (answer : Result ℕ NoUnit) : Type 0 where
   pub value : IfOk answer (λ x. IsResidue m f x)
   pub refused : IsErr answer ↔ (gcd (nat_abs f.bottom) m ≢ 1)

@@ -1,9 +1,9 @@
-//! Moduli and arithmetic modulo them, the weights of a problem, and the plain types that many crates share.
+//! Moduli and arithmetic modulo them, and the weights of a problem. The list types, the errors and the classes that go
+//! with them are named here too.
 #![tactic(auto)]
 
-pub mod class;
 pub mod errors;
-pub mod lists;
+pub mod moduli;
 pub mod modulus;
 mod montgomery;
 pub mod ratio;
@@ -11,9 +11,10 @@ pub mod setup;
 #[cfg(test)]
 mod tests;
 
-pub use class::{Class, Power, Term};
-pub use errors::{NoMemory, NoUnit};
-pub use lists::{Bytes, Integrals, Items, Moduli, Powers, Residues, Terms};
+pub use classes::{Class, Integrals, Power, Powers, Term, Terms};
+pub use errors::NoUnit;
+pub use lists::{Bytes, Items, NoMemory};
+pub use moduli::{Moduli, Residues};
 pub use modulus::{Modulus, ModulusError, coprime};
 pub use ratio::Ratio;
 pub use setup::{Setup, SetupError};

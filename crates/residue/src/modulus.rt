@@ -38,7 +38,7 @@ impl Modulus {
     /// The modulus `m`.
     ///
     /// # Errors
-    /// `Even` where `m` is even, `TooSmall` where it is 1, and `TooLarge` where it is odd and at least 2^62.
+    /// `Even` if `m` is even, `TooSmall` if it is 1, and `TooLarge` if it is odd and at least 2^62.
     pub fn new(m: u64) -> Result<Self, ModulusError>
         ensures made { IfOk result (λ modulus. modulus ≡ m) }
         ensures within { IfOk result (λ _. IsModulus m) }
@@ -106,7 +106,7 @@ impl Modulus {
         self.form.mul(x, y)
     }
 
-    /// The power of the residue `x` by `exponent`, where the power 0 is 1, also of 0.
+    /// The power of the residue `x` by `exponent`; the power 0 is 1, also of 0.
     pub fn pow(&self, x: u64, exponent: u64) -> u64
         requires { x < self.now }
         ensures value { result ≡ (x ^ exponent) % self.now }
@@ -159,7 +159,7 @@ impl Modulus {
     }
 
     /// The product of `count` terms of an arithmetic progression: of `first`, `first + step`, `first + 2 step` and so
-    /// on. It is 1 where there is no term.
+    /// on. It is 1 if there is no term.
     pub fn progression_product(&self, first: u64, step: u64, count: u64) -> u64
         requires first_below { first < self.now }
         requires step_below { step < self.now }
@@ -174,7 +174,7 @@ impl Modulus {
     /// leaves `top`.
     ///
     /// # Errors
-    /// `NoUnit` where `bottom` and the modulus have a common divisor above 1, also where `top` is 0.
+    /// `NoUnit` if `bottom` and the modulus have a common divisor above 1, also if `top` is 0.
     pub fn quotient(&self, top: u64, bottom: u64) -> Result<u64, NoUnit>
         requires top_below { top < self.now }
         requires bottom_below { bottom < self.now }
@@ -188,7 +188,7 @@ impl Modulus {
         }
     }
 
-    /// The inverse of the residue `x`, by the extended algorithm of Euclid. It is `None` exactly where `x` and the
+    /// The inverse of the residue `x`, by the extended algorithm of Euclid. It is `None` exactly if `x` and the
     /// modulus have a common divisor above 1.
     pub fn inverse(&self, x: u64) -> Option<u64>
         requires { x < self.now }

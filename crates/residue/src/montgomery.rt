@@ -74,7 +74,7 @@ impl Montgomery {
         self.times(x, self.enter(y))
     }
 
-    /// The power of the residue `x` by `exponent`, where the power 0 is 1. The squares stay in the form.
+    /// The power of the residue `x` by `exponent`; the power 0 is 1. The squares stay in the form.
     ///
     /// Most edges have degree 1, so that most powers that are asked for are those of 1.
     pub(crate) fn pow(&self, x: u64, exponent: u64) -> u64

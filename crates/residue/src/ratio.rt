@@ -59,7 +59,7 @@ impl Ratio {
         }
     }
 
-    /// The power of a fraction, where the power 0 is 1 over 1.
+    /// The power of a fraction; the power 0 is 1 over 1.
     pub fn power(self, exponent: u64, modulus: &Modulus) -> Self
         requires top_below { self.top < modulus.now }
         requires bottom_below { self.bottom < modulus.now }
@@ -75,7 +75,7 @@ impl Ratio {
     /// The residue of the fraction.
     ///
     /// # Errors
-    /// `NoUnit` exactly where its bottom and the modulus have a common divisor above 1, also where its top is 0.
+    /// `NoUnit` exactly if its bottom and the modulus have a common divisor above 1, also if its top is 0.
     pub fn residue(self, modulus: &Modulus) -> Result<u64, NoUnit>
         requires top_below { self.top < modulus.now }
         requires bottom_below { self.bottom < modulus.now }

@@ -1,9 +1,6 @@
 //! Values from outside: by hand, by the definitions, or by exact arithmetic with numbers of any size.
 
-use crate::{
-    Bytes, Class, Integrals, Moduli, Modulus, ModulusError, Power, Powers, Residues, Setup,
-    SetupError, Term, Terms, coprime,
-};
+use crate::{Moduli, Modulus, ModulusError, Residues, Setup, SetupError, coprime};
 use std::test::Fail;
 
 /// 2^62 - 1, the greatest modulus.
@@ -157,43 +154,11 @@ fn weights(rt: HostRuntime) -> Result<(), Fail> {
 }
 
 #[test]
-fn degrees_of_classes(rt: HostRuntime) {
-    assert_eq!(rt; Class::Mark { mark: 2 }.degree(10), 1);
-    assert_eq!(rt;
-        Class::Hypersurface { b: 5 }.degree(2),
-        11,
-        "sections of O(10) on a line"
-    );
-    assert_eq!(rt; Class::Incidence { q: 2 }.degree(3), 1);
-    assert_eq!(rt; Class::R1 { k: 1 }.degree(2), 1);
-    assert_eq!(rt; Class::R1 { k: 1 }.degree(1), 0);
-    assert_eq!(rt; Class::Contact.degree(3), 5);
-    assert_eq!(rt; Class::Psi { mark: 1 }.degree(7), 1);
-}
-
-#[test]
-fn lists(rt: HostRuntime) -> Result<(), Fail> {
+fn moduli_and_residues(rt: HostRuntime) -> Result<(), Fail> {
     let moduli = Moduli::of(vec![in rt.alloc(); Modulus::new(3)?, Modulus::new(101)?]?);
     assert_eq!(rt; moduli.len(), 2);
     assert_eq!(rt; moduli.get(1).get(), 101);
     let residues = Residues::of(vec![in rt.alloc(); 7, 8, 9]?);
     assert_eq!(rt; residues.as_slice(), [7, 8, 9].as_slice());
-    assert!(rt; Bytes::of(Vec::new(rt.alloc())).is_empty());
-    let twice = Power {
-        class: Class::R1 { k: 1 },
-        power: 2,
-    };
-    let term = Term {
-        coefficient: -3,
-        classes: Powers::of(vec![in rt.alloc(); twice]?),
-    };
-    let integrals = Integrals::of(vec![in rt.alloc(); Terms::of(vec![in rt.alloc(); term]?)]?);
-    assert_eq!(rt; integrals.len(), 1);
-    assert_eq!(rt; integrals.get(0).len(), 1);
-    assert_eq!(rt; integrals.get(0).get(0).coefficient, -3);
-    assert_eq!(rt;
-        integrals.get(0).get(0).classes.as_slice(),
-        [twice].as_slice()
-    );
     Ok(())
 }

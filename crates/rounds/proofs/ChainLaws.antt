@@ -9,7 +9,8 @@ use Rattle.rounds.specs.Chains.{IsChain, IsEndOfChain}
 use Rattle.rounds.specs.Chains.IsChain.{begun, paused}
 use Rattle.rounds.specs.declared.progress.Outcome.{Outcome}
 use Rattle.rounds.specs.declared.progress.Outcome.TheVariants.{Done, Paused, NoInverse}
-use Rattle.rounds.proofs.Summed.{nothing_summed, summed_more, none_append}
+use Rattle.rounds.proofs.Summed.{nothing_summed, summed_more}
+use Rattle.localisation.proofs.AllNumbers.{none_append}
 
 abbrev at_state : ProblemView → ℕ → List ℕ → SumView
 at_state p next residues = record { problem = p; next = next; residues = residues }

@@ -3,21 +3,18 @@ use Rattle.std.proofs.Common.{◌≡◌, ℕ, ◌+◌, ◌%◌, ◌<◌, ◌≤�
 use Rattle.std.proofs.Math.Nat.{add-mod-mod, mod-eq_of_lt}
 use Rattle.std.proofs.lemmas.Bool.{cases_lt}
 use Rattle.arithmetic.specs.Fractions.{plus, IsResidue}
-use Rattle.arithmetic.proofs.Residues.{IsResidue-plus}
+use Rattle.arithmetic.proofs.Residues.{IsResidue-plus, residue_of_zero}
 use Rattle.localisation.specs.Contribution.{partial_sum}
 use Rattle.localisation.specs.Agreement.{modulus_at, integral_at, NoneBad}
-use Rattle.localisation.proofs.Sums.{partial_sum-cut, partial_sum-none}
+use Rattle.localisation.proofs.AllNumbers.{none_append}
+use Rattle.localisation.proofs.PartialSums.{partial_sum-cut, partial_sum-none}
 use Rattle.problem.specs.Rules.{KeepsRules}
 use Rattle.problem.specs.Sums.{is_bad_of, ArePartialSums}
 use Rattle.checkpoint.specs.States.{AreResidues}
 use Rattle.sum_job.specs.Parts.{GrewByNumbers}
-use Rattle.sum_job.proofs.AddedResidues.{modulus_above, residue_of_zero}
+use Rattle.sum_job.proofs.AddedResidues.{modulus_above}
 use Rattle.rounds.specs.Outcomes.{SumView, IsSummed, IsTrueSum}
 use Rattle.rounds.proofs.RoundLaws.{residues_reduced}
-
-pub none_append : (bad : ℕ → Bool) (first start stop : ℕ) → NoneBad bad first start → NoneBad bad start stop → NoneBad bad first stop
-none_append bad first start stop before after j from below e =
-    ⊎_elim (λ earlier. before j from earlier e) (λ later. after j later below e) (cases_lt j start)
 
 -- no number
 pub nothing_summed : (s : SumView) → KeepsRules s.problem → AreResidues s.problem s.residues → IsSummed s s.next s.residues

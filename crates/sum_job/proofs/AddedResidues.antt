@@ -6,7 +6,7 @@ use Rattle.std.proofs.lemmas.List.{get_or-set_same, get_or-set_other}
 use Rattle.std.proofs.lemmas.Option.{get_or_from_slice_get}
 use Rattle.std.proofs.Math.Nat.{mod-eq_of_lt}
 use Rattle.arithmetic.specs.Fractions.{fraction, IsResidue}
-use Rattle.arithmetic.proofs.NumberLaws.{reduce-pos}
+use Rattle.arithmetic.proofs.ReduceLaws.{reduce-pos}
 use Rattle.arithmetic.proofs.Residues.{IsResidue-from, unit_one}
 use Rattle.localisation.specs.Agreement.{modulus_at}
 use Rattle.problem.specs.Rules.{ProblemView, KeepsRules}
@@ -22,17 +22,6 @@ modulus_above p rules place =
     let some = rules.moduli.least in
     let h = rules.moduli.each (place % length p.moduli) 0 (mod-lt place some) in
     let above = h.at_least_3 in omega arith
-
--- the sum over nothing has the residue 0
-pub residue_of_zero : (m : ℕ) → 1 < m → IsResidue m (fraction (pos 0) (pos 1)) 0
-residue_of_zero m h =
-    IsResidue-from m (fraction (pos 0) (pos 1)) 0 0 1 (omega arith) (reduce-pos m 0 ∙ mod-eq_of_lt (omega arith)) (reduce-pos m 1 ∙ mod-eq_of_lt h)
-    (omega arith) (unit_one m) (mod-eq_of_lt (omega arith))
-
-pub zeros : (n i : ℕ) → slice_index (replicate n 0) i ≡ 0
-zeros zero i = refl
-zeros (suc n) zero = refl
-zeros (suc n) (suc i) = zeros n i
 
 -- one more entry that was written
 pub added_next : (P : ℕ → ℕ → ℕ → Type 0) (xs initial : List ℕ) (new place : ℕ) → place < length xs

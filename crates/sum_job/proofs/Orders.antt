@@ -7,7 +7,7 @@ use Rattle.std.specs.Option.{option_to_list}
 use Rattle.claim_table.proofs.Lists.{least_most}
 use Rattle.arithmetic.specs.Fractions.{IsResidue}
 use Rattle.arithmetic.proofs.FractionOrders.{sum_of_fractions-IsPermutation}
-use Rattle.residue.specs.declared.class.Term.{Term}
+use Rattle.classes.specs.declared.class.Term.{Term}
 use Rattle.localisation.specs.Agreement.{modulus_at, integral_at}
 use Rattle.claim_table.specs.Counts.{nothing_bad, least_of}
 use Rattle.worker_pool.specs.Rounds.{at_most, answers, blocks_of}

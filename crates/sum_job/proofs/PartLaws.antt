@@ -7,13 +7,13 @@ use Rattle.std.proofs.lemmas.List.{length-replicate, map-append}
 use Rattle.std.proofs.lemmas.List.Elements.{filter_map-append, All-pop, All-nil, All-cons, All-append}
 use Rattle.arithmetic.specs.Fractions.{fraction, plus, sum_of_fractions, IsResidue}
 use Rattle.arithmetic.proofs.FractionSums.{plus-zero, sum_of_fractions-append}
-use Rattle.arithmetic.proofs.Residues.{IsResidue-plus}
-use Rattle.residue.specs.declared.class.Term.{Term}
+use Rattle.arithmetic.proofs.Residues.{IsResidue-plus, residue_of_zero}
+use Rattle.classes.specs.declared.class.Term.{Term}
 use Rattle.localisation.specs.Agreement.{modulus_at, integral_at, AreResiduesOf}
 use Rattle.problem.specs.Sums.{is_bad_of}
 use Rattle.claim_table.specs.Counts.{nothing_bad, least_of}
 use Rattle.claim_table.proofs.Lists.{least_most}
-use Rattle.trees.specs.Numbers.{tree_of}
+use Rattle.trees.specs.TreeNumbers.{tree_of}
 use Rattle.factor_table.specs.declared.table.FactorSeat.{FactorSeat}
 use Rattle.factor_table.specs.Seats.{IsSeatOf}
 use Rattle.table_sum.specs.Words.{IsLater}
@@ -23,7 +23,8 @@ use Rattle.worker_pool.specs.Rounds.{at_most, answers, blocks_of}
 use Rattle.sum_job.specs.declared.part.PartSum.{PartSum}
 use Rattle.sum_job.specs.Parts.{JobView, KeepsJob, least_bad_of, block_start, block_stop, block_sum, sum_of_blocks, IsReady, IsWorked, KnowsBlock, AreClean, StandsFor, least_with, IsAdded}
 use Rattle.sum_job.proofs.JobLaws.{among_some_back}
-use Rattle.sum_job.proofs.AddedResidues.{at_most_64, modulus_above, residue_of_zero, zeros}
+use Rattle.sum_job.proofs.AddedResidues.{at_most_64, modulus_above}
+use Rattle.lists.proofs.Padding.{zeros}
 
 -- ---- no block
 pub empty_part : (job : JobView) (part : PartSum) → KeepsJob job → IsSeatOf part.seat job.table → part.sums ≡ replicate 64 0 → part.least ≡ nothing_bad

@@ -9,9 +9,9 @@ use Rattle.arithmetic.specs.Fractions.{Fraction, plus, sum_of_fractions, IsResid
 use Rattle.arithmetic.proofs.FractionSums.{plus-zero, sum_of_fractions-append}
 use Rattle.arithmetic.proofs.Residues.{AreResidues, IsResidue-sum}
 use Rattle.arithmetic.proofs.Residues.AreResidues.{none, one}
-use Rattle.residue.specs.declared.class.Term.{Term}
+use Rattle.classes.specs.declared.class.Term.{Term}
 use Rattle.localisation.specs.Contribution.{partial_sum}
-use Rattle.localisation.proofs.Sums.{partial_sum-cut, partial_sum-none}
+use Rattle.localisation.proofs.PartialSums.{partial_sum-cut, partial_sum-none}
 use Rattle.claim_table.specs.Counts.{bit, times, total, sum_below}
 use Rattle.claim_table.specs.Claims.{plan, IsLegal}
 use Rattle.claim_table.proofs.Lists.{times-append, bit_eq, bit_ne}

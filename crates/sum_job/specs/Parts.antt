@@ -1,7 +1,7 @@
 -- The blocks of a range of numbers, and what a worker's part stands for.
 use Rattle.std.specs.Prelude.{◌≡◌, ℕ, zero, suc, ◌+◌, ◌-◌, ◌*◌, ◌/◌, ◌%◌, ◌<◌, ◌≤◌, Bool, List, Option, Some, None, if◌then◌else◌, length, map, min, slice_index, All}
 use Rattle.arithmetic.specs.Fractions.{Fraction, sum_of_fractions, IsResidue}
-use Rattle.residue.specs.declared.class.Term.{Term}
+use Rattle.classes.specs.declared.class.Term.{Term}
 use Rattle.localisation.specs.Contribution.{partial_sum}
 use Rattle.localisation.specs.Agreement.{modulus_at, integral_at, AreResiduesOf}
 use Rattle.problem.specs.Rules.{ProblemView, KeepsRules}

@@ -6,8 +6,8 @@ use Rattle.std.proofs.lemmas.List.Concat.{flat_map-cons}
 use Rattle.std.proofs.lemmas.List.Sums.{sum_by-cons}
 use Rattle.std.proofs.lemmas.Option.{get_or_from_slice_get}
 use Rattle.trees.specs.Decorated.{TreeShape}
-use Rattle.residue.specs.declared.class.Power.{Power}
-use Rattle.residue.specs.declared.class.Term.{Term}
+use Rattle.classes.specs.declared.class.Power.{Power}
+use Rattle.classes.specs.declared.class.Term.{Term}
 use Rattle.problem.specs.declared.problem.Problem.{Problem}
 use Rattle.problem.specs.Problems.{view}
 use Rattle.problem.specs.Rules.{IsTermOf, IsIntegralOf}

@@ -9,11 +9,11 @@ use Rattle.arithmetic.proofs.Residues.{IsResidue-plus, IsResidue-whole}
 use Rattle.arithmetic.proofs.Congruences.{same_refl, same_of_eq, same_sym, same_trans, same_add, same_mod}
 use Rattle.arithmetic.proofs.Modular.{Leaves-pos}
 use Rattle.trees.specs.Decorated.{DecoratedTree}
-use Rattle.trees.specs.Numbers.{tree_of}
-use Rattle.residue.specs.declared.class.Term.{Term}
+use Rattle.trees.specs.TreeNumbers.{tree_of}
+use Rattle.classes.specs.declared.class.Term.{Term}
 use Rattle.localisation.specs.Contribution.{contribution, partial_sum}
 use Rattle.localisation.specs.Agreement.{modulus_at, integral_at}
-use Rattle.localisation.proofs.Sums.{partial_sum-none, partial_sum-next}
+use Rattle.localisation.proofs.PartialSums.{partial_sum-none, partial_sum-next}
 use Rattle.problem.specs.Rules.{ProblemView}
 use Rattle.problem.specs.declared.problem.Problem.{Problem}
 use Rattle.range_sum.specs.Totals.{AddsResidue}

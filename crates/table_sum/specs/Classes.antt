@@ -1,8 +1,8 @@
 -- The classes of terms and of integrals, in their order.
 use Rattle.std.specs.Prelude.{◌≡◌, ℕ, ◌+◌, ◌<◌, ◌≤◌, List, length, map, get_or, flat_map}
-use Rattle.residue.specs.declared.class.Class.{Class}
-use Rattle.residue.specs.declared.class.Power.{Power}
-use Rattle.residue.specs.declared.class.Term.{Term}
+use Rattle.classes.specs.declared.class.Class.{Class}
+use Rattle.classes.specs.declared.class.Power.{Power}
+use Rattle.classes.specs.declared.class.Term.{Term}
 
 -- the classes of the powers of a term
 abbrev pub classes_of_powers : List Power → List Class

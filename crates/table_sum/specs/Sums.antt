@@ -1,9 +1,9 @@
 -- What trees add to the sums of a problem.
 use Rattle.std.specs.Prelude.{ℕ, ◌<◌, ◌≤◌, List, length, slice_index}
 use Rattle.trees.specs.Decorated.{DecoratedTree}
-use Rattle.trees.specs.Numbers.{tree_of}
+use Rattle.trees.specs.TreeNumbers.{tree_of}
 use Rattle.arithmetic.specs.Fractions.{Fraction}
-use Rattle.residue.specs.declared.class.Term.{Term}
+use Rattle.classes.specs.declared.class.Term.{Term}
 use Rattle.localisation.specs.Agreement.{modulus_at, integral_at}
 use Rattle.problem.specs.declared.problem.Problem.{Problem}
 use Rattle.problem.specs.Problems.{view}

@@ -3,7 +3,7 @@
 ghost use Rattle.std.specs.Prelude.{◌≡◌, ◌+◌, ◌<◌, ◌≤◌, length, All};
 ghost use Rattle.arithmetic.specs.Fractions.{product_of_fractions};
 ghost use Rattle.localisation.specs.ClassValue.{class_edge, class_value, term_value, at_edges, at_vertices};
-ghost use Rattle.residue.specs.Classes.{IsClassFor, IsPowerFor};
+ghost use Rattle.classes.specs.Classes.{IsClassFor, IsPowerFor};
 ghost use Rattle.class_factor.specs.Powers.{value_of_powers};
 ghost use Rattle.class_factor.specs.Vertices.{class_at_vertex};
 ghost use Rattle.factor_table.specs.Factors.{HasParts, class_at};

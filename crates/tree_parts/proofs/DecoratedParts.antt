@@ -3,11 +3,12 @@ use Rattle.std.proofs.Common.{◌≡◌, ◌≢◌, ℕ, ◌+◌, ◌<◌, ◌�
 use Rattle.std.proofs.lemmas.Bool.Decides.{nat_tests}
 use Rattle.std.proofs.lemmas.List.Sums.{AllPass-from_list_all, get_or-le-sum_by}
 use Rattle.std.proofs.lemmas.List.Elements.{All-nil, All-cons}
-use Rattle.trees.specs.Edges.{below}
+use Rattle.lists.specs.Ranges.{below}
 use Rattle.trees.specs.Decorated.{DecoratedTree, TreeShape, is_decorated, ends_differ}
-use Rattle.trees.proofs.AllTrees.{both, parts}
+use Rattle.std.proofs.lemmas.Bool.{and_parts}
+use Rattle.trees.proofs.AllTrees.{parts}
 use Rattle.trees.proofs.Connected.{EndsAmong, connected_degree}
-use Rattle.trees.proofs.WordLaws.{member-below, length-below}
+use Rattle.lists.proofs.Different.{member-below, length-below}
 use Rattle.trees.proofs.TreeLaws.{tree_from}
 use Rattle.localisation.specs.ClassValue.{at_edges, colour_of, ends_at}
 use Rattle.localisation.specs.VertexFraction.{End}
@@ -165,12 +166,12 @@ ends_most s g v ps h is =
 
 -- ---- a `Tree` of a shape
 pub decorated_of : (s : TreeShape) (t : Tree) → IsTrue (is_tree_of s t) → is_decorated s (tree_view t) ≡ true
-decorated_of s t h = (both _ (is_decorated s (tree_view t)) h).1
+decorated_of s t h = (and_parts _ (is_decorated s (tree_view t)) h).1
 
 pub marks_of : (s : TreeShape) (t : Tree) → IsTrue (is_tree_of s t) → t.m ≡ s.marks
 marks_of s t h =
-    let first = (both _ (is_decorated s (tree_view t)) h).0 in
-    let test = (both (t.m == s.marks) _ first).0 in
+    let first = (and_parts _ (is_decorated s (tree_view t)) h).0 in
+    let test = (and_parts (t.m == s.marks) _ first).0 in
     by_test t.m s.marks test
   where
     by_test : (a b : ℕ) → (a == b) ≡ true → a ≡ b

@@ -1,6 +1,7 @@
 -- What a decorated tree gives for the making of its parts.
 use Rattle.std.proofs.Common.{◌≡◌, ◌≢◌, ℕ, ◌-◌, ◌<◌, ◌≤◌, List, [], length, take, sum, filter, slice_index_or, All, IsTrue, sym, ap, subst, ◌∙◌, arith}
-use Rattle.trees.specs.Decorated.{TreeShape, counted_from}
+use Rattle.trees.specs.Decorated.{TreeShape}
+use Rattle.lists.specs.Ranges.{counted_from}
 use Rattle.decorated_tree.specs.declared.tree.Tree.{Tree}
 use Rattle.decorated_tree.specs.Shapes.{shape_of}
 use Rattle.decorated_tree.specs.Trees.{is_tree_of}

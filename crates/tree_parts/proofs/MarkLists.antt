@@ -2,7 +2,7 @@
 use Rattle.std.proofs.Common.{◌≡◌, ◌≢◌, ℕ, zero, suc, ◌+◌, ◌-◌, ◌<◌, ◌≤◌, Bool, true, false, cond, List, [], ◌∷◌, ◌++◌, length, get_or, filter, slice_index, refl, sym, ap, ◌∙◌, subst, ⊎_elim, arith, add-one, add-zero}
 use Rattle.std.proofs.lemmas.Bool.Decides.{nat_tests}
 use Rattle.std.proofs.lemmas.List.{length_push}
-use Rattle.trees.specs.Decorated.{counted_from}
+use Rattle.lists.specs.Ranges.{counted_from}
 use Rattle.tree_parts.specs.Marks.{is_at}
 use Rattle.tree_parts.proofs.EndLists.{pushed_at, pushed_here, pushed_elsewhere, same_or_other}
 

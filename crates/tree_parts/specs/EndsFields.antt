@@ -1,6 +1,7 @@
 -- The fields of `Ends`, given back by its items.
 use Rattle.std.specs.Prelude.{◌≡◌, ℕ, List, length, take}
-use Rattle.trees.specs.Padding.{padded, IsPadded, length-front, padded-take}
+use Rattle.lists.specs.Padding.{padded, IsPadded}
+use Rattle.lists.proofs.Padding.{length-front, padded-take}
 use Rattle.tree_parts.specs.declared.ends.Ends.TheInside.{Inside}
 
 abbrev pub fields_of : List (ℕ × ℕ) → Inside

@@ -1,7 +1,7 @@
 //! The marks at each vertex.
 
 ghost use Rattle.std.specs.Prelude.{◌≡◌, ℕ, ◌<◌, ◌≤◌, ◌++◌, ◌∷◌, [], filter, length, slice_index_or, slice_set, All};
-ghost use Rattle.trees.specs.Decorated.{counted_from};
+ghost use Rattle.lists.specs.Ranges.{counted_from};
 ghost use Rattle.tree_parts.specs.Marks.{is_at};
 
 use std::marker::Model;
@@ -15,7 +15,7 @@ pub(crate) struct Marks {
 
 impl Model for Marks {
     ghost use Rattle.std.specs.Prelude.{ℕ, List, take};
-    ghost use Rattle.trees.specs.Padding.{IsPadded};
+    ghost use Rattle.lists.specs.Padding.{IsPadded};
 
     ghost Value = { List ℕ };
 

@@ -3,8 +3,9 @@ use Rattle.std.proofs.Common.{◌≡◌, ◌≢◌, ℕ, ◌<◌, ◌≤◌, Boo
 use Rattle.std.proofs.lemmas.List.{ext_get_or}
 use Rattle.std.proofs.lemmas.Bool.{cases_eq}
 use Rattle.std.proofs.lemmas.Bool.Decides.{nat_tests}
-use Rattle.trees.specs.Walks.{is_there, lifted, place_of, IsWalk, coloured, Follows, digits_of}
-use Rattle.trees.proofs.Listed.{IsIn, nothing_in, in_cons}
+use Rattle.lists.specs.Members.{is_member, IsIn}
+use Rattle.trees.specs.Walks.{lifted, place_of, IsWalk, coloured, Follows, digits_of}
+use Rattle.lists.proofs.Members.{nothing_in, in_cons}
 use Rattle.trees.proofs.WalkLaws.{place-lifted, lifted_apart, place_below, lifted_below, Within, is_walked, Differs, coloured_keeps, coloured_follows, follows_once, digits_keep, digits_follow}
 use Rattle.trees.proofs.WalkedEdges.{IsTreeWalk, AlongEdges, step_edge}
 
@@ -24,13 +25,13 @@ pub record AreColours (n r : ℕ) (es : List (ℕ × ℕ)) (cs : List ℕ) : Typ
   pub within : (v : ℕ) → v < n → get_or cs v 0 ≤ r
   pub differ : (e : ℕ × ℕ) → IsIn e es → EndsApart cs e
 
-length-coloured : (walk : List (ℕ × ℕ)) (ds cs : List ℕ) → length (coloured walk ds cs) ≡ length cs
+pub length-coloured : (walk : List (ℕ × ℕ)) (ds cs : List ℕ) → length (coloured walk ds cs) ≡ length cs
 length-coloured [] ds cs = refl
 length-coloured (s ∷ walk) ds cs =
     let c = lifted (get_or ds s.0 0) (get_or cs s.1 0) in
     length-coloured walk ds (set cs s.0 c) ∙ length-set cs s.0 c
 
-length-digits_of : (walk : List (ℕ × ℕ)) (cs ds : List ℕ) → length (digits_of walk cs ds) ≡ length ds
+pub length-digits_of : (walk : List (ℕ × ℕ)) (cs ds : List ℕ) → length (digits_of walk cs ds) ≡ length ds
 length-digits_of [] cs ds = refl
 length-digits_of (s ∷ walk) cs ds =
     let x = place_of (get_or cs s.0 0) (get_or cs s.1 0) in
@@ -42,7 +43,7 @@ step_or_later : (x v : ℕ) (b : Bool) → ((x == v) || b) ≡ true → (x ≡ v
 step_or_later x v b h ne = grind (arith, nat_tests)
 
 colours_within : (walk : List (ℕ × ℕ)) (before ds cs : List ℕ) (r : ℕ) → IsWalk walk before → Follows walk ds cs
-    → ((v : ℕ) → is_there v before ≡ true → get_or cs v 0 ≤ r) → ((v : ℕ) → is_walked v walk ≡ true → get_or ds v 0 < r)
+    → ((v : ℕ) → is_member v before ≡ true → get_or cs v 0 ≤ r) → ((v : ℕ) → is_walked v walk ≡ true → get_or ds v 0 < r)
     → (v : ℕ) → is_walked v walk ≡ true → get_or cs v 0 ≤ r
 colours_within [] before ds cs r w f old digit v m = cc
 colours_within (s ∷ walk) before ds cs r w f old digit v m =
@@ -58,8 +59,8 @@ colours_within (s ∷ walk) before ds cs r w f old digit v m =
     later : (x u : ℕ) (b : Bool) → b ≡ true → ((x == u) || b) ≡ true
     later x u b h = grind arith
 
-    grown : get_or cs s.0 0 ≤ r → (u : ℕ) → is_there u (s.0 ∷ before) ≡ true → get_or cs u 0 ≤ r
-    grown here u h = ⊎_elim (λ e. subst (λ z. get_or cs z 0 ≤ r) e here) (λ ne. old u (step_or_later s.0 u (is_there u before) h ne)) (cases_eq s.0 u)
+    grown : get_or cs s.0 0 ≤ r → (u : ℕ) → is_member u (s.0 ∷ before) ≡ true → get_or cs u 0 ≤ r
+    grown here u h = ⊎_elim (λ e. subst (λ z. get_or cs z 0 ≤ r) e here) (λ ne. old u (step_or_later s.0 u (is_member u before) h ne)) (cases_eq s.0 u)
 
 -- colours are followed by one list of digits only
 digits_once : (walk : List (ℕ × ℕ)) (xs ys cs : List ℕ) → Follows walk xs cs → Follows walk ys cs → (v : ℕ) → is_walked v walk ≡ true → get_or xs v 0 ≡ get_or ys v 0
@@ -74,9 +75,9 @@ follows_differs : (walk : List (ℕ × ℕ)) (ds cs : List ℕ) → Follows walk
 follows_differs [] ds cs f = tt
 follows_differs (s ∷ walk) ds cs f = (λ e. lifted_apart (get_or ds s.0 0) (get_or cs s.1 0) (sym f.0 ∙ e), follows_differs walk ds cs f.1)
 
--- the digit of a step is the place of its colour
+-- the digit of a step is the index of its colour
 digits_below : (walk : List (ℕ × ℕ)) (before ds cs : List ℕ) (r : ℕ) → Follows walk ds cs → ((v : ℕ) → is_walked v walk ≡ true → get_or cs v 0 ≤ r)
-    → IsWalk walk before → ((v : ℕ) → is_there v before ≡ true → get_or cs v 0 ≤ r) → (v : ℕ) → is_walked v walk ≡ true → get_or ds v 0 < r
+    → IsWalk walk before → ((v : ℕ) → is_member v before ≡ true → get_or cs v 0 ≤ r) → (v : ℕ) → is_walked v walk ≡ true → get_or ds v 0 < r
 digits_below [] before ds cs r f colour w old v m = cc
 digits_below (s ∷ walk) before ds cs r f colour w old v m =
     let c = get_or cs s.1 0 in
@@ -95,8 +96,8 @@ digits_below (s ∷ walk) before ds cs r f colour w old v m =
     later : (x u : ℕ) (b : Bool) → b ≡ true → ((x == u) || b) ≡ true
     later x u b h = grind arith
 
-    grown : get_or cs s.0 0 ≤ r → (u : ℕ) → is_there u (s.0 ∷ before) ≡ true → get_or cs u 0 ≤ r
-    grown here u h = ⊎_elim (λ e. subst (λ z. get_or cs z 0 ≤ r) e here) (λ ne. old u (step_or_later s.0 u (is_there u before) h ne)) (cases_eq s.0 u)
+    grown : get_or cs s.0 0 ≤ r → (u : ℕ) → is_member u (s.0 ∷ before) ≡ true → get_or cs u 0 ≤ r
+    grown here u h = ⊎_elim (λ e. subst (λ z. get_or cs z 0 ≤ r) e here) (λ ne. old u (step_or_later s.0 u (is_member u before) h ne)) (cases_eq s.0 u)
 
 -- ---- along edges
 edge_differs : (walk : List (ℕ × ℕ)) (cs : List ℕ) (e : ℕ × ℕ) → Differs walk cs → IsIn e (map step_edge walk) → EndsApart cs e
@@ -118,17 +119,17 @@ walk_differs es (s ∷ walk) cs h a = (turned (nat_lt s.0 s.1) (h (step_edge s) 
     turned false k = λ e. k (sym e)
 
 -- ---- of a tree
-only_zero : (v : ℕ) → ((0 == v) || false) ≡ true → 0 ≡ v
+pub only_zero : (v : ℕ) → ((0 == v) || false) ≡ true → 0 ≡ v
 only_zero v h = grind (arith, nat_tests)
 
 zero_there : (v : ℕ) → 0 ≡ v → ((0 == v) || false) ≡ true
 zero_there v h = grind (arith, nat_tests)
 
-walked_apart : (walk : List (ℕ × ℕ)) (before : List ℕ) (u v : ℕ) → IsWalk walk before → is_there u before ≡ true → is_walked v walk ≡ true → u ≢ v
+walked_apart : (walk : List (ℕ × ℕ)) (before : List ℕ) (u v : ℕ) → IsWalk walk before → is_member u before ≡ true → is_walked v walk ≡ true → u ≢ v
 walked_apart [] before u v w p m = cc
 walked_apart (s ∷ walk) before u v w p m = λ e.
-    ⊎_elim (λ same. absurd (let x : is_there u before ≡ is_there s.0 before = ap (λ z. is_there z before) (e ∙ sym same) in let y = w.0 in clash p x y))
-    (λ ne. walked_apart walk (s.0 ∷ before) u v w.2 (later s.0 u (is_there u before) p) (step_or_later s.0 v (is_walked v walk) m ne) e)
+    ⊎_elim (λ same. absurd (let x : is_member u before ≡ is_member s.0 before = ap (λ z. is_member z before) (e ∙ sym same) in let y = w.0 in clash p x y))
+    (λ ne. walked_apart walk (s.0 ∷ before) u v w.2 (later s.0 u (is_member u before) p) (step_or_later s.0 v (is_walked v walk) m ne) e)
     (cases_eq s.0 v)
   where
     clash : {a b : Bool} → a ≡ true → a ≡ b → b ≡ false → ⊥
@@ -143,7 +144,7 @@ walked_below n (s ∷ walk) v w m =
     ⊎_elim (λ e. subst (λ z. z < n) e w.0) (λ ne. walked_below n walk v w.1 (step_or_later s.0 v (is_walked v walk) m ne)) (cases_eq s.0 v)
 
 module _ (n r : ℕ) (es walk : List (ℕ × ℕ)) (some : 0 < n) (t : IsTreeWalk n es walk) where
-  at_zero : (P : ℕ → Type 0) → P 0 → (v : ℕ) → is_there v (0 ∷ []) ≡ true → P v
+  at_zero : (P : ℕ → Type 0) → P 0 → (v : ℕ) → is_member v (0 ∷ []) ≡ true → P v
   at_zero P h v m = subst P (only_zero v m) h
 
   -- lists of n numbers that agree at 0 and along the walk

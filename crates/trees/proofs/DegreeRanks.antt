@@ -2,19 +2,13 @@
 use Rattle.std.proofs.Common.{◌≡◌, ℕ, zero, suc, ◌+◌, ◌-◌, ◌<◌, ◌≤◌, Bool, true, ◌&&◌, ◌==◌, nat_le, List, [], ◌∷◌, length, get_or, map, refl, sym, ap, ◌∙◌, subst, ⊎_elim, arith, eqb-true, leb-true, le-leb}
 use Rattle.std.specs.List.{list_all}
 use Rattle.std.proofs.lemmas.List.Sums.{sum_by-cons}
-use Rattle.trees.specs.Edges.{below}
-use Rattle.trees.specs.Decorated.{counted_from}
-use Rattle.trees.specs.Numbering.{AreDegrees, degree_lists, choose, rank_of}
-use Rattle.trees.proofs.Listed.{IsIn, here, there, nothing_in, in_cons, in_map, in_flat_map, from_flat_map, ComesFrom}
-use Rattle.trees.proofs.AllTrees.{both, each_of, in_below, in_counted_from, from_map}
-use Rattle.trees.proofs.NumberingLaws.{ranks_from, all_ranks}
-
-from_counted : (a n x : ℕ) → IsIn x (counted_from a n) → (a ≤ x) × (x < a + n)
-from_counted a zero x i = absurd (nothing_in i)
-from_counted a (suc n) x i = ⊎_elim (λ e. (omega arith, omega arith)) (λ j. let h = from_counted (suc a) n x j in (omega arith, omega arith)) (in_cons i)
-
-join : (a b : Bool) → a ≡ true → b ≡ true → (a && b) ≡ true
-join a b h k = grind arith
+use Rattle.lists.specs.Ranges.{below, counted_from}
+use Rattle.trees.specs.DegreeLists.{AreDegrees, degree_lists, rank_of}
+use Rattle.lists.specs.Binomials.{choose}
+use Rattle.lists.specs.Members.{IsIn, here}
+use Rattle.lists.proofs.Members.{nothing_in, in_cons, in_map, in_flat_map, from_flat_map, ComesFrom, each_of, from_map, in_place, place_in}
+use Rattle.std.proofs.lemmas.Bool.{and_parts, and_from}
+use Rattle.lists.proofs.Ranges.{in_below, in_counted_from, from_counted}
 
 pub are_degrees : (k d : ℕ) (ds : List ℕ) → IsIn ds (degree_lists k d) → AreDegrees k d ds
 are_degrees zero zero ds i = ⊎_elim (λ e. subst (AreDegrees 0 0) (sym e) (record { long = refl; positive = refl; total = refl })) (λ j. absurd (nothing_in j)) (in_cons i)
@@ -30,7 +24,7 @@ are_degrees (suc k) d ds i = step (from_flat_map (λ a. map (λ ds. a ∷ ds) (d
         let rest = f (d - a) r.0 r.1 in
         subst (AreDegrees (suc k) d) (sym r.2) (record {
           long = ap suc rest.long;
-          positive = join (nat_le 1 a) (list_all (λ a. nat_le 1 a) r.0) (le-leb 1 a within.0) rest.positive;
+          positive = and_from (nat_le 1 a) (list_all (λ a. nat_le 1 a) r.0) (le-leb 1 a within.0) rest.positive;
           total = (let s = sum_by-cons (λ z. z) a r.0 in let t = rest.total in let w = within.1 in omega arith);
         })
 
@@ -40,7 +34,7 @@ in_degree_lists zero (suc d) [] h = absurd (let t = h.total in omega arith)
 in_degree_lists zero d (a ∷ ds) h = absurd (let l = h.long in omega arith)
 in_degree_lists (suc k) d [] h = absurd (let l = h.long in omega arith)
 in_degree_lists (suc k) d (a ∷ ds) h =
-    let p = both (nat_le 1 a) (list_all (λ a. nat_le 1 a) ds) h.positive in
+    let p = and_parts (nat_le 1 a) (list_all (λ a. nat_le 1 a) ds) h.positive in
     let some : 1 ≤ a = leb-true 1 a p.0 in
     let s = sum_by-cons (λ z. z) a ds in
     let t = h.total in
@@ -48,38 +42,31 @@ in_degree_lists (suc k) d (a ∷ ds) h =
     in_flat_map (λ a. map (λ ds. a ∷ ds) (degree_lists k (d - a))) {x = a} (counted_from 1 d) (in_counted_from 1 d a some (omega arith))
     (in_map (λ ds. a ∷ ds) (in_degree_lists k (d - a) ds (record { long = omega arith; positive = p.1; total = omega arith })))
 
--- ---- places
-pub record StandsAt {A : Type 0} (xs : List A) (d x : A) : Type 0 where
-  pub place : ℕ
-  pub within : place < length xs
-  pub is : get_or xs place d ≡ x
+-- the numbers that a rank gives to the lists are q, q + 1 and so on
+unfoldable pub ranks_from : (List ℕ → ℕ → ℕ) → List (List ℕ) → ℕ → ℕ → Bool
+ranks_from rank [] d q = true
+ranks_from rank (ds ∷ rest) d q = (rank ds d == q) && ranks_from rank rest d (q + 1)
 
-pub place_in : {A : Type 0} (xs : List A) (d x : A) → IsIn x xs → StandsAt xs d x
-place_in [] d x i = absurd (nothing_in i)
-place_in (y ∷ xs) d x i =
-    ⊎_elim (λ e. record { place = 0; within = omega arith; is = sym e })
-    (λ j. let r = place_in xs d x j in let w = r.within in record { place = suc r.place; within = omega arith; is = r.is }) (in_cons i)
-
-pub in_place : {A : Type 0} (xs : List A) (d : A) (q : ℕ) → q < length xs → IsIn (get_or xs q d) xs
-in_place [] d q h = absurd (omega arith)
-in_place (x ∷ xs) d zero h = here
-in_place (x ∷ xs) d (suc q) h = there (in_place xs d q (omega arith))
+-- the ranks of all lists of degrees with sums up to ten, by computing
+pub all_ranks : list_all (λ d. list_all (λ k. ranks_from rank_of (degree_lists (k + 1) (d + 1)) (d + 1) 0 && (length (degree_lists (k + 1) (d + 1)) == choose d k)) (below 10)) (below 10) ≡ true
+unfolding ranks_from rank_of
+all_ranks = refl
 
 pub rank_at : (rank : List ℕ → ℕ → ℕ) (lists : List (List ℕ)) (d first q : ℕ) → ranks_from rank lists d first ≡ true → q < length lists
     → rank (get_or lists q []) d ≡ first + q
 unfolding ranks_from
 rank_at rank [] d first q h k = absurd (omega arith)
 rank_at rank (ds ∷ lists) d first zero h k =
-    let e = eqb-true (rank ds d) first (both (rank ds d == first) (ranks_from rank lists d (first + 1)) h).0 in omega arith
+    let e = eqb-true (rank ds d) first (and_parts (rank ds d == first) (ranks_from rank lists d (first + 1)) h).0 in omega arith
 rank_at rank (ds ∷ lists) d first (suc q) h k =
-    let e = rank_at rank lists d (first + 1) q (both (rank ds d == first) (ranks_from rank lists d (first + 1)) h).1 (omega arith) in omega arith
+    let e = rank_at rank lists d (first + 1) q (and_parts (rank ds d == first) (ranks_from rank lists d (first + 1)) h).1 (omega arith) in omega arith
 
 -- what was computed for each length and each sum
 ranks : (k d : ℕ) → k < 10 → d < 10
     → (ranks_from rank_of (degree_lists (k + 1) (d + 1)) (d + 1) 0 ≡ true) × (length (degree_lists (k + 1) (d + 1)) ≡ choose d k)
 ranks k d h j =
     let row = each_of (λ d. list_all (λ k. ranks_from rank_of (degree_lists (k + 1) (d + 1)) (d + 1) 0 && (length (degree_lists (k + 1) (d + 1)) == choose d k)) (below 10)) (below 10) all_ranks (in_below 10 d j) in
-    let p = both _ _ (each_of (λ k. ranks_from rank_of (degree_lists (k + 1) (d + 1)) (d + 1) 0 && (length (degree_lists (k + 1) (d + 1)) == choose d k)) (below 10) row (in_below 10 k h)) in
+    let p = and_parts _ _ (each_of (λ k. ranks_from rank_of (degree_lists (k + 1) (d + 1)) (d + 1) 0 && (length (degree_lists (k + 1) (d + 1)) == choose d k)) (below 10) row (in_below 10 k h)) in
     (p.0, eqb-true (length (degree_lists (k + 1) (d + 1))) (choose d k) p.1)
 
 -- ---- lists of n - 1 degrees with the sum d

@@ -1,58 +1,16 @@
 -- The five kinds of digits of a tree: letters, the first colour, places of colours, the rank of the degrees, and marks.
-use Rattle.std.proofs.Common.{◌≡◌, ◌≢◌, ℕ, zero, suc, ◌+◌, ◌-◌, ◌<◌, ◌≤◌, Bool, true, false, ◌||◌, ◌==◌, nat_lt, List, [], ◌∷◌, ◌++◌, length, get_or, take, drop, replicate, refl, sym, ap, ◌∙◌, subst, inl, inr, ◌⊎◌, ⊎_elim, arith, eqb-true, eq-eqb, ltb-true, lt-ltb, append_assoc}
+use Rattle.std.proofs.Common.{◌≡◌, ◌≢◌, ℕ, zero, suc, ◌+◌, ◌-◌, ◌<◌, ◌≤◌, true, nat_lt, List, [], ◌∷◌, ◌++◌, length, get_or, take, drop, replicate, refl, sym, ap, ◌∙◌, subst, arith, ltb-true, lt-ltb, append_assoc}
 use Rattle.std.specs.List.{list_all}
 use Rattle.std.proofs.lemmas.List.{take-append-drop}
 use Rattle.trees.specs.Decorated.{TreeShape}
-use Rattle.trees.specs.Words.{is_member}
-use Rattle.trees.specs.Numbering.{AreDigits, choose}
-use Rattle.trees.specs.Numbers.{bases}
-use Rattle.trees.proofs.Listed.{IsIn, here, there, nothing_in, in_cons}
-use Rattle.trees.proofs.AllTrees.{each_of}
-use Rattle.trees.proofs.TreeLaws.{all_from}
+use Rattle.lists.specs.Members.{is_member, IsIn}
+use Rattle.lists.specs.Digits.{AreDigits}
+use Rattle.lists.specs.Binomials.{choose}
+use Rattle.trees.specs.TreeNumbers.{bases}
+use Rattle.lists.proofs.Members.{each_of, all_from, StandsAt, place_in, in_place}
 use Rattle.trees.proofs.ColourDigits.{AreColourDigits}
-use Rattle.trees.proofs.DegreeRanks.{StandsAt, place_in, in_place}
-
--- ---- digits one after the other
-digits_split : (bs cs ds : List ℕ) → AreDigits (bs ++ cs) ds → AreDigits bs (take (length bs) ds) × AreDigits cs (drop (length bs) ds)
-digits_split [] cs ds h = (tt, h)
-digits_split (b ∷ bs) cs [] h = absurd h
-digits_split (b ∷ bs) cs (x ∷ ds) h = let r = digits_split bs cs ds h.1 in ((h.0, r.0), r.1)
-
-digits_join : (bs cs xs ys : List ℕ) → AreDigits bs xs → AreDigits cs ys → AreDigits (bs ++ cs) (xs ++ ys)
-digits_join [] cs [] ys h k = k
-digits_join [] cs (x ∷ xs) ys h k = absurd h
-digits_join (b ∷ bs) cs [] ys h k = absurd h
-digits_join (b ∷ bs) cs (x ∷ xs) ys h k = (h.0, digits_join bs cs xs ys h.1 k)
-
--- digits that have the same base
-digits_same : (k b : ℕ) (ds : List ℕ) → AreDigits (replicate k b) ds → (length ds ≡ k) × ((x : ℕ) → IsIn x ds → x < b)
-digits_same zero b [] h = (refl, λ x i. absurd (nothing_in i))
-digits_same zero b (x ∷ ds) h = absurd h
-digits_same (suc k) b [] h = absurd h
-digits_same (suc k) b (x ∷ ds) h =
-    let r = digits_same k b ds h.1 in
-    (ap suc r.0, λ y i. ⊎_elim (λ e. subst (λ z. z < b) (sym e) h.0) (λ j. r.1 y j) (in_cons i))
-
-same_digits : (k b : ℕ) (ds : List ℕ) → length ds ≡ k → ((x : ℕ) → IsIn x ds → x < b) → AreDigits (replicate k b) ds
-same_digits zero b [] e f = tt
-same_digits zero b (x ∷ ds) e f = absurd (omega arith)
-same_digits (suc k) b [] e f = absurd (omega arith)
-same_digits (suc k) b (x ∷ ds) e f = (f x here, same_digits k b ds (omega arith) (λ y i. f y (there i)))
-
-pub member_in : (x : ℕ) (xs : List ℕ) → is_member x xs ≡ true → IsIn x xs
-member_in x [] h = cc
-member_in x (y ∷ xs) h = step (y == x) refl h (λ k. member_in x xs k)
-  where
-    step : (b : Bool) → (y == x) ≡ b → (b || is_member x xs) ≡ true → (is_member x xs ≡ true → IsIn x xs) → IsIn x (y ∷ xs)
-    step true c k f = subst (λ z. IsIn z (y ∷ xs)) (eqb-true y x c) here
-    step false c k f = there (f k)
-
-pub in_member : (x : ℕ) (xs : List ℕ) → IsIn x xs → is_member x xs ≡ true
-in_member x [] i = elim i [ ]
-in_member x (y ∷ xs) i = head (y == x) (is_member x xs) (⊎_elim (λ s. inl (eq-eqb y x (sym s))) (λ j. inr (in_member x xs j)) (in_cons i))
-  where
-    head : (e m : Bool) → (e ≡ true) ⊎ (m ≡ true) → (e || m) ≡ true
-    head e m h = grind arith
+use Rattle.lists.proofs.Digits.{digits_join, digits_same, digits_split, same_digits}
+use Rattle.lists.proofs.Different.{in_member, member_in}
 
 -- ---- the digits of colours
 colour_digits : (n r : ℕ) (cs : List ℕ) → 0 < n → AreDigits ((r + 1) ∷ replicate (n - 1) r) cs → AreColourDigits n r cs

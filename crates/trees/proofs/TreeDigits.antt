@@ -1,21 +1,26 @@
 -- The decorated trees with n vertices and their digits correspond.
-use Rattle.std.proofs.Common.{◌≡◌, ◌≢◌, ℕ, ◌+◌, ◌-◌, ◌*◌, ◌<◌, ◌≤◌, Bool, true, false, ◌&&◌, ◌==◌, not, nat_le, List, [], ◌∷◌, ◌++◌, length, get_or, take, drop, refl, sym, ap, ap₂, ◌∙◌, subst, arith, eqb-true, eq-eqb, ltb-true, leb-true, le-leb}
+use Rattle.std.proofs.Common.{◌≡◌, ◌≢◌, ℕ, ◌+◌, ◌-◌, ◌*◌, ◌<◌, ◌≤◌, Bool, true, false, ◌==◌, not, nat_le, List, [], ◌∷◌, ◌++◌, length, get_or, take, drop, refl, sym, ap, ap₂, ◌∙◌, subst, arith, eqb-true, eq-eqb, ltb-true, leb-true, le-leb}
 use Rattle.std.specs.List.{list_all}
 use Rattle.std.proofs.lemmas.List.{get_or-append-add}
 use Rattle.std.proofs.Math.Seq.{take-append_seam, drop-append_seam, drop-append-add, get_or-append_seam}
-use Rattle.trees.specs.Edges.{below, is_tree}
+use Rattle.lists.specs.Ranges.{below}
+use Rattle.trees.specs.Edges.{is_tree}
 use Rattle.trees.specs.Decorated.{DecoratedTree, TreeShape, is_decorated, ends_differ}
 use Rattle.trees.specs.Words.{decoded, encoded, decoded_on, encoded_on, Fits}
-use Rattle.trees.specs.Numbering.{AreDegrees, AreDigits, degree_lists, rank_of}
-use Rattle.trees.specs.Numbers.{bases, tree_by, digits_by}
+use Rattle.trees.specs.DegreeLists.{AreDegrees, degree_lists, rank_of}
+use Rattle.lists.specs.Digits.{AreDigits}
+use Rattle.trees.specs.TreeNumbers.{bases, tree_by, digits_by}
 use Rattle.trees.specs.Walks.{walk_in, coloured, digits_of}
-use Rattle.trees.proofs.Listed.{IsIn, here, there}
-use Rattle.trees.proofs.AllTrees.{both, each_of, IsDecorated, parts, decorated_from}
-use Rattle.trees.proofs.WordLaws.{encoded_on-decoded_on, length-below, length-decoded_on, member-below, fits-below}
-use Rattle.trees.proofs.TreeLaws.{tree-decoded, decodes-encoded, decoded-encoded, all_from}
+use Rattle.lists.specs.Members.{IsIn, here, there}
+use Rattle.std.proofs.lemmas.Bool.{and_parts, and_from}
+use Rattle.lists.proofs.Members.{each_of, all_from, StandsAt, place_in, in_place}
+use Rattle.trees.proofs.AllTrees.{IsDecorated, parts, decorated_from}
+use Rattle.trees.proofs.DecodedWords.{encoded_on-decoded_on, length-decoded_on, fits-below}
+use Rattle.lists.proofs.Different.{length-below, member-below}
+use Rattle.trees.proofs.TreeLaws.{tree-decoded, decodes-encoded, decoded-encoded}
 use Rattle.trees.proofs.WalkedEdges.{IsTreeWalk, tree_walk}
 use Rattle.trees.proofs.ColourDigits.{AreColours, EndsApart, colours_from, digits_back, digits_from, colours_back}
-use Rattle.trees.proofs.DegreeRanks.{ranked, StandsAt, place_in, in_place}
+use Rattle.trees.proofs.DegreeRanks.{ranked}
 use Rattle.trees.proofs.DigitParts.{AreTreeDigits, tree_digits, digits_of_tree, regroup_digits}
 
 encoded-decoded : (n : ℕ) (w : List ℕ) → length w + 2 ≡ n → Fits (below n) w → encoded n (decoded n w) ≡ w
@@ -32,7 +37,7 @@ tree_with s n w cs q ms = record {
   marks = ms;
 }
 
--- where the parts stand among the digits
+-- which digits are which part
 tree_by-parts : (s : TreeShape) (n : ℕ) (w cs : List ℕ) (q : ℕ) (ms : List ℕ) → length w + 2 ≡ n → length cs ≡ n
     → tree_by s n (w ++ (cs ++ q ∷ ms)) ≡ tree_with s n w cs q ms
 unfolding tree_with
@@ -71,10 +76,7 @@ test_apart x y h e = absurd (let t : (x == y) ≡ true = eq-eqb x y e in let u :
 
 edge_tests : (cs : List ℕ) (es : List (ℕ × ℕ)) → ((e : ℕ × ℕ) → IsIn e es → EndsApart cs e) → list_all (ends_differ cs) es ≡ true
 edge_tests cs [] h = refl
-edge_tests cs (e ∷ es) h = join (ends_differ cs e) (list_all (ends_differ cs) es) (apart_test (get_or cs e.0 0) (get_or cs e.1 0) (h e here)) (edge_tests cs es (λ f i. h f (there i)))
-  where
-    join : (a b : Bool) → a ≡ true → b ≡ true → (a && b) ≡ true
-    join a b h k = grind arith
+edge_tests cs (e ∷ es) h = and_from (ends_differ cs e) (list_all (ends_differ cs) es) (apart_test (get_or cs e.0 0) (get_or cs e.1 0) (h e here)) (edge_tests cs es (λ f i. h f (there i)))
 
 -- ---- from digits to trees and back
 module _ (s : TreeShape) (n : ℕ) (least : 2 ≤ n) (most : n ≤ s.degree + 1) (small : s.degree < 11) (w cs : List ℕ) (q : ℕ) (ms : List ℕ) (h : AreTreeDigits s n w cs q ms) where
@@ -135,7 +137,7 @@ module _ (s : TreeShape) (g : DecoratedTree) (d : IsDecorated s g) (small : s.de
   }
 
   edge_count : length g.edges + 1 ≡ g.vertices
-  edge_count = eqb-true (length g.edges + 1) g.vertices (both _ _ (both _ _ d.tree).0).1
+  edge_count = eqb-true (length g.edges + 1) g.vertices (and_parts _ _ (and_parts _ _ d.tree).0).1
 
   degrees_of : AreDegrees (g.vertices - 1) s.degree g.degrees
   degrees_of = record { long = (let e = edge_count in let f = d.degrees in omega arith); positive = d.degrees_positive; total = d.degrees_sum }

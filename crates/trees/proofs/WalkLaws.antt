@@ -2,7 +2,8 @@
 use Rattle.std.proofs.Common.{◌≡◌, ◌≢◌, ℕ, ◌<◌, ◌≤◌, Bool, true, false, ◌==◌, ◌||◌, List, [], ◌∷◌, length, get_or, set, refl, sym, ap, ◌∙◌, subst, ⊎_elim, arith, get_or-set_other, get_or-set_same, length-set}
 use Rattle.std.proofs.lemmas.Bool.{cases_eq}
 use Rattle.std.proofs.lemmas.Bool.Decides.{nat_tests}
-use Rattle.trees.specs.Walks.{lifted, place_of, is_there, IsWalk, coloured, Follows, digits_of}
+use Rattle.trees.specs.Walks.{lifted, place_of, IsWalk, coloured, Follows, digits_of}
+use Rattle.lists.specs.Members.{is_member}
 
 pub place-lifted : (x c : ℕ) → place_of (lifted x c) c ≡ x
 place-lifted x c = grind (arith, nat_tests)
@@ -19,17 +20,17 @@ place_below x c r ne h k = grind (arith, nat_tests)
 pub lifted_below : (x c r : ℕ) → x < r → c ≤ r → lifted x c ≤ r
 lifted_below x c r h k = grind (arith, nat_tests)
 
-pub apart : (x y : ℕ) (xs : List ℕ) → is_there x xs ≡ true → is_there y xs ≡ false → x ≢ y
-apart x y xs h k e = let a : is_there x xs ≡ is_there y xs = ap (λ z. is_there z xs) e in cc
+pub apart : (x y : ℕ) (xs : List ℕ) → is_member x xs ≡ true → is_member y xs ≡ false → x ≢ y
+apart x y xs h k e = let a : is_member x xs ≡ is_member y xs = ap (λ z. is_member z xs) e in cc
 
-pub still_there : (x y : ℕ) (xs : List ℕ) → is_there x xs ≡ true → is_there x (y ∷ xs) ≡ true
+pub still_there : (x y : ℕ) (xs : List ℕ) → is_member x xs ≡ true → is_member x (y ∷ xs) ≡ true
 still_there x y xs h = grind arith
 
-pub now_there : (x : ℕ) (xs : List ℕ) → is_there x (x ∷ xs) ≡ true
+pub now_there : (x : ℕ) (xs : List ℕ) → is_member x (x ∷ xs) ≡ true
 now_there x xs = grind arith
 
 -- what was there before keeps its colour
-pub coloured_keeps : (walk : List (ℕ × ℕ)) (before digits colours : List ℕ) (v : ℕ) → IsWalk walk before → is_there v before ≡ true
+pub coloured_keeps : (walk : List (ℕ × ℕ)) (before digits colours : List ℕ) (v : ℕ) → IsWalk walk before → is_member v before ≡ true
     → get_or (coloured walk digits colours) v 0 ≡ get_or colours v 0
 coloured_keeps [] before digits colours v w h = refl
 coloured_keeps (s ∷ walk) before digits colours v w h =
@@ -63,7 +64,7 @@ is_walked v [] = false
 is_walked v (s ∷ walk) = (s.0 == v) || is_walked v walk
 
 -- two colourings that follow the digits and agree on what was there agree along the walk
-pub follows_once : (walk : List (ℕ × ℕ)) (before digits xs ys : List ℕ) → IsWalk walk before → ((v : ℕ) → is_there v before ≡ true → get_or xs v 0 ≡ get_or ys v 0)
+pub follows_once : (walk : List (ℕ × ℕ)) (before digits xs ys : List ℕ) → IsWalk walk before → ((v : ℕ) → is_member v before ≡ true → get_or xs v 0 ≡ get_or ys v 0)
     → Follows walk digits xs → Follows walk digits ys → (v : ℕ) → is_walked v walk ≡ true → get_or xs v 0 ≡ get_or ys v 0
 follows_once [] before digits xs ys w a f g v h = cc
 follows_once (s ∷ walk) before digits xs ys w a f g v h =
@@ -75,16 +76,16 @@ follows_once (s ∷ walk) before digits xs ys w a f g v h =
     rest : (x v : ℕ) (b : Bool) → ((x == v) || b) ≡ true → (x ≡ v → ⊥) → b ≡ true
     rest x v b h ne = grind (arith, nat_tests)
 
-    grown : (u : ℕ) → get_or xs s.0 0 ≡ get_or ys s.0 0 → is_there u (s.0 ∷ before) ≡ true → get_or xs u 0 ≡ get_or ys u 0
+    grown : (u : ℕ) → get_or xs s.0 0 ≡ get_or ys s.0 0 → is_member u (s.0 ∷ before) ≡ true → get_or xs u 0 ≡ get_or ys u 0
     grown u here m =
-        ⊎_elim (λ e. subst (λ z. get_or xs z 0 ≡ get_or ys z 0) e here) (λ ne. a u (rest s.0 u (is_there u before) m ne)) (cases_eq s.0 u)
+        ⊎_elim (λ e. subst (λ z. get_or xs z 0 ≡ get_or ys z 0) e here) (λ ne. a u (rest s.0 u (is_member u before) m ne)) (cases_eq s.0 u)
 
 -- the digits of colours that differ along the walk are followed by these colours
 abbrev pub Differs : List (ℕ × ℕ) → List ℕ → Type 0
 Differs [] colours = Unit {0}
 Differs (s ∷ walk) colours = (get_or colours s.0 0 ≢ get_or colours s.1 0) × Differs walk colours
 
-pub digits_keep : (walk : List (ℕ × ℕ)) (before colours digits : List ℕ) (v : ℕ) → IsWalk walk before → is_there v before ≡ true
+pub digits_keep : (walk : List (ℕ × ℕ)) (before colours digits : List ℕ) (v : ℕ) → IsWalk walk before → is_member v before ≡ true
     → get_or (digits_of walk colours digits) v 0 ≡ get_or digits v 0
 digits_keep [] before colours digits v w h = refl
 digits_keep (s ∷ walk) before colours digits v w h =

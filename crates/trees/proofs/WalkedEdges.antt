@@ -1,43 +1,22 @@
 -- In a tree the steps of the walk from vertex 0 are the edges, and they come to every other vertex.
-use Rattle.std.proofs.Common.{◌≡◌, ◌≢◌, ℕ, zero, suc, ◌+◌, ◌<◌, ◌≤◌, ◌⊎◌, Bool, true, false, ◌&&◌, ◌||◌, ◌==◌, not, nat_lt, if◌then◌else◌, List, [], ◌∷◌, ◌++◌, length, map, refl, sym, ap, ◌∙◌, subst, inl, inr, ⊎_elim, arith, eqb-true, ltb-true}
+use Rattle.std.proofs.Common.{◌≡◌, ◌≢◌, ℕ, zero, suc, ◌+◌, ◌<◌, ◌≤◌, Bool, true, false, ◌&&◌, ◌||◌, ◌==◌, not, nat_lt, if◌then◌else◌, List, [], ◌∷◌, ◌++◌, length, map, sym, ap, ◌∙◌, subst, ⊎_elim, arith, eqb-true, ltb-true}
 use Rattle.std.proofs.lemmas.List.{length-map}
 use Rattle.std.specs.List.{list_all}
-use Rattle.std.proofs.lemmas.Bool.{cases_eq}
+use Rattle.std.proofs.lemmas.Bool.{cases_eq, and_parts}
 use Rattle.std.proofs.lemmas.Bool.Decides.{nat_tests}
-use Rattle.trees.specs.Edges.{below, contains, reached_in, is_tree}
-use Rattle.trees.specs.Words.{is_member, edge_between, touches}
-use Rattle.trees.specs.Walks.{is_there, steps_of, after, walk_in, IsWalk}
-use Rattle.trees.proofs.Listed.{IsIn, here, there, EachOnce, nothing_in, in_cons, without_place, in_others}
-use Rattle.trees.proofs.AllTrees.{both, each_of, in_below}
-use Rattle.trees.proofs.WordLaws.{AllUpward, subset_length, member-below, different-below, length-below}
+use Rattle.lists.specs.Ranges.{below}
+use Rattle.lists.specs.Members.{is_member, IsIn, here, there, EachOnce}
+use Rattle.trees.specs.Edges.{reached_in, is_tree}
+use Rattle.trees.specs.Words.{edge_between, touches}
+use Rattle.trees.specs.Walks.{steps_of, after, walk_in, IsWalk}
+use Rattle.lists.proofs.Members.{nothing_in, in_cons, each_of, all_there}
+use Rattle.lists.proofs.Ranges.{in_below}
+use Rattle.trees.proofs.PrunedTrees.{AllUpward}
+use Rattle.lists.proofs.Different.{subset_length, member-below, different-below, length-below, member_in}
 use Rattle.trees.proofs.Connected.{between_comm}
-use Rattle.trees.proofs.TreeLaws.{contains_in, upward_edge, upward_from}
+use Rattle.trees.proofs.TreeLaws.{upward_edge, upward_from}
 use Rattle.trees.proofs.WalkLaws.{Within, is_walked, now_there, still_there, apart}
 use Rattle.trees.proofs.RoundLaws.{walk_in_walk, walk_reaches}
-
--- ---- different members of a list that is no longer are all of them
-length-without_place : {A : Type 0} {x : A} (xs : List A) (h : IsIn x xs) → length xs ≡ suc (length (without_place xs h))
-unfolding without_place
-length-without_place [] h = elim h [ ]
-length-without_place (y ∷ xs) here = refl
-length-without_place (y ∷ xs) (there h) = ap suc (length-without_place xs h)
-
-front_or_other : {A : Type 0} {x y : A} (xs : List A) (h : IsIn x xs) → IsIn y xs → (y ≡ x) ⊎ IsIn y (without_place xs h)
-unfolding without_place
-front_or_other [] h k = elim h [ ]
-front_or_other (z ∷ xs) here k = in_cons k
-front_or_other (z ∷ xs) (there h) here = inr here
-front_or_other (z ∷ xs) (there h) (there k) = ⊎_elim (λ e. inl e) (λ j. inr (there j)) (front_or_other xs h k)
-
-pub all_there : {A : Type 0} (xs ys : List A) → EachOnce xs → ((x : A) → IsIn x xs → IsIn x ys) → length ys ≤ length xs → (y : A) → IsIn y ys → IsIn y xs
-all_there [] [] d f l y i = i
-all_there [] (z ∷ ys) d f l y i = absurd (omega arith)
-all_there (x ∷ xs) ys d f l y i =
-    let h = f x here in
-    let shorter = length-without_place ys h in
-    ⊎_elim (λ e. subst (λ z. IsIn z (x ∷ xs)) (sym e) here)
-    (λ j. there (all_there xs (without_place ys h) d.1 (λ z k. in_others ys h (f z (there k)) (d.0 z k)) (omega arith) y j))
-    (front_or_other ys h i)
 
 -- ---- steps and edges
 -- the edge of a step
@@ -56,7 +35,7 @@ along_append es (s ∷ v) w h k = (h.0, along_append es v w h.1 k)
 steps_along : (all es : List (ℕ × ℕ)) (before : List ℕ) → AllUpward es → ((e : ℕ × ℕ) → IsIn e es → IsIn e all) → AlongEdges all (steps_of es before)
 steps_along all [] before up f = tt
 steps_along all (e ∷ es) before up f =
-    cases (is_there e.0 before && not (is_there e.1 before)) (is_there e.1 before && not (is_there e.0 before))
+    cases (is_member e.0 before && not (is_member e.1 before)) (is_member e.1 before && not (is_member e.0 before))
     (subst (λ z. IsIn z all) (sym (between_comm e.1 e.0 ∙ upward_edge e up.0)) (f e here))
     (subst (λ z. IsIn z all) (sym (upward_edge e up.0)) (f e here))
     (steps_along all es (e.1 ∷ before) up.1 (λ g i. f g (there i)))
@@ -81,7 +60,7 @@ along_in es [] h e i = absurd (nothing_in i)
 along_in es (s ∷ walk) h e i = ⊎_elim (λ same. subst (λ z. IsIn z es) (sym same) h.0) (λ j. along_in es walk h.1 e j) (in_cons i)
 
 -- no step goes along an edge between vertices that were there
-new_edge : (walk : List (ℕ × ℕ)) (before : List ℕ) (u v : ℕ) (e : ℕ × ℕ) → IsWalk walk before → is_there u before ≡ true → is_there v before ≡ true
+new_edge : (walk : List (ℕ × ℕ)) (before : List ℕ) (u v : ℕ) (e : ℕ × ℕ) → IsWalk walk before → is_member u before ≡ true → is_member v before ≡ true
     → IsIn e (map step_edge walk) → edge_between u v ≢ e
 new_edge [] before u v e w p q i = absurd (nothing_in i)
 new_edge (s ∷ walk) before u v e w p q i =
@@ -102,18 +81,13 @@ edges_once [] before w = tt
 edges_once (s ∷ walk) before w =
     (λ e i. new_edge walk (s.0 ∷ before) s.0 s.1 e w.2 (now_there s.0 before) (still_there s.1 s.0 before w.1) i, edges_once walk (s.0 ∷ before) w.2)
 
--- ---- what the walk comes to
-there_member : (x : ℕ) (xs : List ℕ) → is_there x xs ≡ is_member x xs
-there_member x [] = refl
-there_member x (y ∷ xs) = ap (λ (b : Bool). (y == x) || b) (there_member x xs)
-
-length-after : (walk : List (ℕ × ℕ)) (before : List ℕ) → length (after walk before) ≡ length walk + length before
+pub length-after : (walk : List (ℕ × ℕ)) (before : List ℕ) → length (after walk before) ≡ length walk + length before
 length-after [] before = omega arith
 length-after (s ∷ walk) before = let h = length-after walk (s.0 ∷ before) in omega arith
 
-after_walked : (walk : List (ℕ × ℕ)) (before : List ℕ) (v : ℕ) → is_there v (after walk before) ≡ true → is_there v before ≡ false → is_walked v walk ≡ true
+after_walked : (walk : List (ℕ × ℕ)) (before : List ℕ) (v : ℕ) → is_member v (after walk before) ≡ true → is_member v before ≡ false → is_walked v walk ≡ true
 after_walked [] before v h k = cc
-after_walked (s ∷ walk) before v h k = step s.0 (is_walked v walk) (λ ne. after_walked walk (s.0 ∷ before) v h (new s.0 (is_there v before) k ne))
+after_walked (s ∷ walk) before v h k = step s.0 (is_walked v walk) (λ ne. after_walked walk (s.0 ∷ before) v h (new s.0 (is_member v before) k ne))
   where
     new : (x : ℕ) (b : Bool) → b ≡ false → (x ≡ v → ⊥) → ((x == v) || b) ≡ false
     new x b k ne = grind (arith, nat_tests)
@@ -144,19 +118,19 @@ pub record IsTreeWalk (n : ℕ) (es walk : List (ℕ × ℕ)) : Type 0 where
 
 pub tree_walk : (n : ℕ) (es : List (ℕ × ℕ)) → is_tree n es ≡ true → IsTreeWalk n es (walk_in n es (0 ∷ []))
 tree_walk n es t =
-    let reached = both _ _ t in
-    let counted = both _ _ reached.0 in
-    let set = both _ _ counted.0 in
+    let reached = and_parts _ _ t in
+    let counted = and_parts _ _ reached.0 in
+    let set = and_parts _ _ counted.0 in
     let walk = walk_in n es (0 ∷ []) in
     let walks = walk_in_walk n es (0 ∷ []) in
     let along = walk_along n es (0 ∷ []) (upward_from n es set.1) in
-    let at : (v : ℕ) → v < n → is_there v (after walk (0 ∷ [])) ≡ true = λ v h.
-    walk_reaches n es 0 (contains_in v (reached_in n es (0 ∷ []))
-    (each_of (contains (reached_in n es (0 ∷ []))) (below n) reached.1 (in_below n v h))) in
+    let at : (v : ℕ) → v < n → is_member v (after walk (0 ∷ [])) ≡ true = λ v h.
+    walk_reaches n es 0 (member_in v (reached_in n es (0 ∷ []))
+    (each_of (λ w. is_member w (reached_in n es (0 ∷ []))) (below n) reached.1 (in_below n v h))) in
     let count : length es + 1 ≡ n = eqb-true (length es + 1) n counted.1 in
     let long : length (below n) ≤ length (after walk (0 ∷ [])) =
     subset_length (below n) (after walk (0 ∷ [])) (different-below n)
-    (λ v m. sym (there_member v (after walk (0 ∷ []))) ∙ at v (ltb-true v n (sym (member-below v n) ∙ m))) in
+    (λ v m. at v (ltb-true v n (sym (member-below v n) ∙ m))) in
     record {
       walks = walks;
       within = steps_within n es walk set.1 along;

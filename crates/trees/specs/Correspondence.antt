@@ -1,8 +1,8 @@
 -- Numbers and decorated trees correspond one to one.
 use Rattle.std.specs.Prelude.{◌≡◌, ℕ, ◌<◌, length, IsPermutation}
 use Rattle.trees.specs.Decorated.{DecoratedTree, TreeShape, all_trees}
-use Rattle.trees.specs.Members.{IsIn}
-use Rattle.trees.specs.Numbers.{tree_count, tree_of, number_of, numbered_trees}
+use Rattle.lists.specs.Members.{IsIn}
+use Rattle.trees.specs.TreeNumbers.{tree_count, tree_of, number_of, numbered_trees}
 
 -- each number below the count has a decorated tree of this number, each decorated tree has a number below the count that gives it back,
 -- and the trees of the numbers, from 0 on, are all decorated trees in another order

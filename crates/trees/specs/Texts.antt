@@ -14,7 +14,7 @@ abbrev pub numbers_text : List ℕ → List ℕ
 numbers_text [] = []
 numbers_text (n ∷ ns) = codes " " ++ decimal n ++ numbers_text ns
 
--- the vertices of the marks, or `-` where there is none
+-- the vertices of the marks, or `-` if there is none
 abbrev pub marks_text : List ℕ → List ℕ
 marks_text [] = codes " -"
 marks_text (v ∷ vs) = numbers_text (v ∷ vs)

@@ -1,3 +1,3 @@
-//! Edge sets, trees, decorated trees and the list of all of them, Prüfer words and mixed digits: definitions, in
+//! Edge sets, trees, decorated trees and the list of all of them, Prüfer words and the numbers of trees: definitions, in
 //! `specs/`, and their laws, in `proofs/`.
 #![tactic(auto)]

@@ -2,10 +2,10 @@
 use Rattle.std.proofs.Common.{◌≡◌, ℕ, zero, suc, List, [], ◌∷◌, ◌++◌, length, map, remove, ℤ, pos, ◌+ℤ◌, ◌*ℤ◌, refl, sym, ap, ap₂, ◌∙◌, arith}
 use Rattle.std.proofs.lemmas.Int.{ints}
 use Rattle.std.proofs.Math.IntN.{*ℤ_comm, *ℤ-zero}
-use Rattle.arithmetic.specs.Numbers.{total}
-use Rattle.arithmetic.proofs.NumberLaws.{*ℤ_assoc, *ℤ-+ℤ}
+use Rattle.arithmetic.specs.Numbers.{integer_sum}
+use Rattle.arithmetic.proofs.IntegerLaws.{*ℤ_assoc, *ℤ-+ℤ}
 use Rattle.arithmetic.proofs.Progressions.{times-+ℤ}
-use Rattle.trees.specs.Edges.{below}
+use Rattle.lists.specs.Ranges.{below}
 use Rattle.localisation.specs.VertexFraction.{End, difference, product_of_differences, product_of_degrees, crossed_sum, degree_at}
 
 -- ---- products, with one factor more at the end
@@ -24,11 +24,11 @@ differences-push ws c (x ∷ es) e = ap (λ z. difference ws c x *ℤ z) (differ
     ∙ one_more (difference ws c x) (product_of_differences ws c es) (difference ws c e)
 
 -- ---- sums over the numbers below n
-total-push : (us : List ℕ) (u : ℕ) (f : ℕ → ℤ) → total (map f (us ++ u ∷ [])) ≡ total (map f us) +ℤ f u
+total-push : (us : List ℕ) (u : ℕ) (f : ℕ → ℤ) → integer_sum (map f (us ++ u ∷ [])) ≡ integer_sum (map f us) +ℤ f u
 total-push [] u f = omega (arith, ints)
 total-push (v ∷ us) u f = let h = total-push us u f in omega (arith, ints, h)
 
-total-first : (n : ℕ) (f : ℕ → ℤ) → total (map f (below (suc n))) ≡ f 0 +ℤ total (map (λ u. f (suc u)) (below n))
+total-first : (n : ℕ) (f : ℕ → ℤ) → integer_sum (map f (below (suc n))) ≡ f 0 +ℤ integer_sum (map (λ u. f (suc u)) (below n))
 total-first zero f = refl
 total-first (suc n) f =
     let h = total-first n f in
@@ -36,13 +36,13 @@ total-first (suc n) f =
     let right = total-push (below n) n (λ u. f (suc u)) in
     omega (arith, ints, h, left, right)
 
-total-same : (us : List ℕ) (f g : ℕ → ℤ) → ((u : ℕ) → f u ≡ g u) → total (map f us) ≡ total (map g us)
+total-same : (us : List ℕ) (f g : ℕ → ℤ) → ((u : ℕ) → f u ≡ g u) → integer_sum (map f us) ≡ integer_sum (map g us)
 total-same [] f g h = refl
 total-same (u ∷ us) f g h = ap₂ (λ x y. x +ℤ y) (h u) (total-same us f g h)
 
-total-times : (us : List ℕ) (d : ℤ) (g : ℕ → ℤ) → total (map (λ u. d *ℤ g u) us) ≡ d *ℤ total (map g us)
+total-times : (us : List ℕ) (d : ℤ) (g : ℕ → ℤ) → integer_sum (map (λ u. d *ℤ g u) us) ≡ d *ℤ integer_sum (map g us)
 total-times [] d g = sym (*ℤ-zero d)
-total-times (u ∷ us) d g = ap (λ z. d *ℤ g u +ℤ z) (total-times us d g) ∙ sym (*ℤ-+ℤ d (g u) (total (map g us)))
+total-times (u ∷ us) d g = ap (λ z. d *ℤ g u +ℤ z) (total-times us d g) ∙ sym (*ℤ-+ℤ d (g u) (integer_sum (map g us)))
 
 -- ---- the crossed sum
 swapped : (a d p : ℤ) → a *ℤ (d *ℤ p) ≡ d *ℤ (a *ℤ p)

@@ -5,7 +5,7 @@ use Rattle.std.proofs.lemmas.List.{map_more}
 use Rattle.std.proofs.Math.Nat.{mul-le-mul_left, mul-le-mul_right}
 use Rattle.arithmetic.specs.Numbers.{factorial}
 use Rattle.arithmetic.proofs.Factorials.{factorial-add, factorial-le, factorial_suc}
-use Rattle.trees.specs.Numbering.{product_of}
+use Rattle.lists.specs.Digits.{product_of}
 
 product_of-push : (xs : List ℕ) (y : ℕ) → product_of (xs ++ y ∷ []) ≡ product_of xs * y
 product_of-push [] y = omega arith

@@ -2,7 +2,7 @@
 
 ghost use Rattle.std.specs.Prelude.{◌≡◌, ◌+◌, ◌-◌, ◌*◌, ◌^◌, ◌<◌, ◌≤◌, length, sum, map, All, ◌∷◌, []};
 ghost use Rattle.arithmetic.specs.Numbers.{Leaves, factorial};
-ghost use Rattle.trees.specs.Numbering.{product_of};
+ghost use Rattle.lists.specs.Digits.{product_of};
 ghost use Rattle.localisation.specs.VertexFraction.{vertex_fraction, psi_vertex, stable_psi_vertex, multinomial};
 ghost use Rattle.residue.specs.Answers.{GivesResidue};
 ghost use Rattle.residue.specs.Ratios.{IsRatioOf};

@@ -9,8 +9,8 @@ use crate::gate::Gate;
 use crate::job::Job;
 use crate::shares::Shares;
 use claim_table::{Claimer, Closed, Owners};
+use lists::NoMemory;
 use range_deque::RangeSeat;
-use residue::NoMemory;
 use std::alloc::Global;
 use std::thread::{Threads, join_mut};
 

@@ -1,6 +1,6 @@
 use Rattle.std.proofs.Common.{◌*◌, ◌+◌, ap, ◌∙◌, refl, drop, slice_index_or}
-use Rattle.trees.specs.Numbering.{product_of}
-use Rattle.mixed_radix.proofs.Places.{product-drop, product_above}
+use Rattle.lists.specs.Digits.{product_of}
+use Rattle.mixed_radix.proofs.Suffixes.{product-drop, product_above}
 use Rattle.mixed_radix.proofs.product.Goals as goal
 
 pub returns-then-next_size-clause-none : goal.returns-then-next_size-clause-none

@@ -1,5 +1,5 @@
-use Rattle.residue.specs.declared.class.Class.TheVariants.{Mark}
-use Rattle.residue.specs.declared.class.Power.{Power}
+use Rattle.classes.specs.declared.class.Class.TheVariants.{Mark}
+use Rattle.classes.specs.declared.class.Power.{Power}
 use Rattle.class_factor.specs.Powers.{power_value}
 use Rattle.class_factor.proofs.Values.{product-more}
 use Rattle.class_factor.proofs.term.powers_ratio.Goals as goal

@@ -1,5 +1,5 @@
 use Rattle.std.proofs.Common.{subst, arith}
-use Rattle.arithmetic.specs.Numbers.{Leaves, total}
+use Rattle.arithmetic.specs.Numbers.{Leaves, integer_sum}
 use Rattle.arithmetic.proofs.Modular.{Leaves-add}
 use Rattle.localisation.specs.ClassValue.{incidence_at}
 use Rattle.tree_parts.specs.Edges.{coloured_edge}
@@ -14,6 +14,6 @@ loop-edge-preserved c =
 pub returns : goal.returns
 returns c =
     let past = c.loop-edge-test.false in
-    subst (λ zs. Leaves c.args.modulus.now (total zs) c.loop-edge.sum)
+    subst (λ zs. Leaves c.args.modulus.now (integer_sum zs) c.loop-edge.sum)
     (every_edge (incidence_at c.args.setup.now c.args.q) c.args.parts.now.tree c.edges-edges.result.now c.loop-edge.edge-index c.edges-edges.ensures.value (omega (arith, past)))
     c.loop-edge.invariant

@@ -1,6 +1,6 @@
 use Rattle.std.proofs.Common.{map}
 use Rattle.arithmetic.specs.Fractions.{product_of_fractions}
-use Rattle.trees.specs.Edges.{below}
+use Rattle.lists.specs.Ranges.{below}
 use Rattle.residue.specs.Ratios.{IsRatioOf}
 use Rattle.class_factor.specs.Vertices.{class_at_vertex}
 use Rattle.class_factor.proofs.whole.vertex_parts.Given as goal

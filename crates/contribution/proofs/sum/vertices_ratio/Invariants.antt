@@ -1,6 +1,6 @@
 use Rattle.std.proofs.Common.{map}
 use Rattle.arithmetic.specs.Fractions.{product_of_fractions}
-use Rattle.trees.specs.Edges.{below}
+use Rattle.lists.specs.Ranges.{below}
 use Rattle.residue.specs.Ratios.{IsRatioOf}
 use Rattle.contribution.specs.Terms.{vertex_at}
 use Rattle.contribution.proofs.sum.vertices_ratio.Given as goal

@@ -1,5 +1,5 @@
 use Rattle.std.proofs.Common.{◌∙◌}
-use Rattle.trees.specs.Numbers.{bases}
+use Rattle.trees.specs.TreeNumbers.{bases}
 use Rattle.decorated_tree.specs.Shapes.{shape_of}
 use Rattle.decorated_tree.proofs.Counts.{some_trees}
 use Rattle.decorated_tree.proofs.Refusals.{refused_by_size}

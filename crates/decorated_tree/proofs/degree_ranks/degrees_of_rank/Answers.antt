@@ -1,6 +1,6 @@
 use Rattle.std.proofs.Common.{◌≡◌, ◌-◌, set, get_or, [], subst, arith, refl}
-use Rattle.trees.specs.Padding.{padded}
-use Rattle.trees.specs.Numbering.{degree_lists}
+use Rattle.lists.specs.Padding.{padded}
+use Rattle.trees.specs.DegreeLists.{degree_lists}
 use Rattle.decorated_tree.proofs.DegreeRanking.{made_step, made_end}
 use Rattle.decorated_tree.proofs.degree_ranks.degrees_of_rank.Goals as goal
 

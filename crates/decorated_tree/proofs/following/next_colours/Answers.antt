@@ -1,5 +1,5 @@
 use Rattle.std.proofs.Common.{◌∙◌, length, subst, sym}
-use Rattle.trees.specs.Numbering.{AreDigits}
+use Rattle.lists.specs.Digits.{AreDigits}
 use Rattle.decorated_tree.specs.Following.{GoOn, colour_bases}
 use Rattle.decorated_tree.proofs.NextDigits.{go_on_digits, small_digits}
 use Rattle.decorated_tree.proofs.FirstColour.{uncoloured, recoloured}

@@ -1,8 +1,9 @@
 use Rattle.std.proofs.Common.{◌≡◌, ℕ, List, [], ◌∷◌, ◌++◌, take, drop, ap, ◌∙◌, refl, length, replicate}
 use Rattle.std.proofs.Math.Seq.{take-append_seam}
-use Rattle.trees.specs.Padding.{padded}
+use Rattle.lists.specs.Padding.{padded}
 use Rattle.trees.specs.Walks.{walk_in, coloured}
-use Rattle.decorated_tree.proofs.Unranking.{coloured_places, length-coloured}
+use Rattle.decorated_tree.proofs.Unranking.{coloured_places}
+use Rattle.trees.proofs.ColourDigits.{length-coloured}
 use Rattle.decorated_tree.proofs.unrank.colours_by.Goals as goal
 
 all_colours : (n : ℕ) (es own walk : List (ℕ × ℕ)) (places bytes zeros new : List ℕ) → bytes ≡ places

@@ -1,5 +1,7 @@
+-- From the first digit to the last, the number so far times the product of the bases left, plus the number of the
+-- digits left, is the whole number (`IsJoinedUpTo`), so no step goes above the limit.
 use Rattle.std.proofs.Common.{arith, rules, inl, inr, ⊎_elim}
-use Rattle.mixed_radix.proofs.Places.{join_start, join_step, join_end}
+use Rattle.mixed_radix.proofs.Suffixes.{join_start, join_step, join_end}
 use Rattle.mixed_radix.proofs.Radix.join.Goals as goal
 
 pub loop-base-init : goal.loop-base-init

@@ -1,4 +1,4 @@
-use Rattle.mixed_radix.proofs.Places.{IsJoinedUpTo}
+use Rattle.mixed_radix.proofs.Suffixes.{IsJoinedUpTo}
 use Rattle.mixed_radix.proofs.Radix.join.Given as goal
 
 abbrev pub invariant-loop-base : goal.invariant-loop-base

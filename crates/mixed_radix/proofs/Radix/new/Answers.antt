@@ -1,8 +1,11 @@
+-- A base of 0 makes the product 0, which is not above the limit; without one the product is positive, and the bases
+-- copied into zeros are padded.
 use Rattle.std.proofs.Common.{◌≡◌, ◌≤◌, ◌++◌, ℕ, List, length, drop, replicate, arith, sym, ap, ◌∙◌, refl}
 use Rattle.std.proofs.lemmas.List.{drop-replicate}
-use Rattle.mixed_radix.proofs.Places.{product-first_zero, product_positive}
-use Rattle.trees.specs.Numbering.{product_of}
-use Rattle.trees.specs.Padding.{padded, padded_array, take-padded_array}
+use Rattle.mixed_radix.proofs.Suffixes.{product-first_zero, product_positive}
+use Rattle.lists.specs.Digits.{product_of}
+use Rattle.lists.specs.Padding.{padded}
+use Rattle.lists.proofs.Padding.{padded_array, take-padded_array}
 use Rattle.mixed_radix.proofs.Radix.new.Goals as goal
 
 padded_zeros : (n : ℕ) (xs ys zeros : List ℕ) → length xs ≤ n → ys ≡ xs → zeros ≡ replicate n 0 → ys ++ drop (length xs) zeros ≡ padded 0 n xs

@@ -1,8 +1,10 @@
+-- From the last digit to the first, the greatest digits turn to 0; the old number plus 1 is the number of the digits
+-- now plus one unit of the digit before (`IsCarriedTo`).
 use Rattle.std.proofs.Common.{◌≡◌, ℕ, List, length, set, get_or, replicate, ◌+◌, ◌-◌, ◌<◌, ◌≤◌, arith, refl, ◌∙◌, sym, ap}
 use Rattle.std.proofs.lemmas.Bool.{false≢true}
-use Rattle.trees.specs.Numbering.{product_of, joined, split, AreDigits}
-use Rattle.trees.proofs.NumberingLaws.{split-joined}
-use Rattle.mixed_radix.proofs.Places.{IsCarriedTo, carry_start, carry_step, carry_end, carry_through, length-digits, digit_below}
+use Rattle.lists.specs.Digits.{product_of, joined, split, AreDigits}
+use Rattle.lists.proofs.Digits.{split-joined}
+use Rattle.mixed_radix.proofs.Suffixes.{IsCarriedTo, carry_start, carry_step, carry_end, carry_through, length-digits, digit_below}
 use Rattle.mixed_radix.proofs.Radix.next.Goals as goal
 
 pub loop-place-init : goal.loop-place-init

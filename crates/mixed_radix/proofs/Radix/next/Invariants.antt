@@ -1,4 +1,4 @@
-use Rattle.mixed_radix.proofs.Places.{IsCarriedTo}
+use Rattle.mixed_radix.proofs.Suffixes.{IsCarriedTo}
 use Rattle.mixed_radix.proofs.Radix.next.Given as goal
 
 abbrev pub invariant-loop-place : goal.invariant-loop-place

@@ -1,7 +1,9 @@
+-- From the last base to the first, the number is what is left of it times the product of the bases done, plus the
+-- number of the digits done (`IsSplitFrom`).
 use Rattle.std.proofs.Common.{◌≡◌, ℕ, List, ◌<◌, ◌≤◌, length, arith, sym, ap, ◌∙◌, refl}
-use Rattle.trees.specs.Numbering.{product_of, joined, split, AreDigits}
-use Rattle.trees.proofs.NumberingLaws.{split-joined}
-use Rattle.mixed_radix.proofs.Places.{IsSplitFrom, base_positive, split_start, split_step, split_end}
+use Rattle.lists.specs.Digits.{product_of, joined, split, AreDigits}
+use Rattle.lists.proofs.Digits.{split-joined}
+use Rattle.mixed_radix.proofs.Suffixes.{IsSplitFrom, base_positive, split_start, split_step, split_end}
 use Rattle.mixed_radix.proofs.Radix.split.Goals as goal
 
 pub loop-place-init : goal.loop-place-init

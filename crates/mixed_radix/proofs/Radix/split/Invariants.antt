@@ -1,4 +1,4 @@
-use Rattle.mixed_radix.proofs.Places.{IsSplitFrom}
+use Rattle.mixed_radix.proofs.Suffixes.{IsSplitFrom}
 use Rattle.mixed_radix.proofs.Radix.split.Given as goal
 
 abbrev pub invariant-loop-place : goal.invariant-loop-place

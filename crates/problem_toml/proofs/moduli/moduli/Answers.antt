@@ -1,5 +1,5 @@
 use Rattle.std.proofs.Common.{◌≡◌, ◌≤◌, ◌<◌, ◌^◌, ◌∙◌, ap, sym, subst, length, Ok}
-use Rattle.trees.specs.Numbering.{product_of}
+use Rattle.lists.specs.Digits.{product_of}
 use Rattle.problem_toml.specs.Moduli.{coprime_from}
 use Rattle.problem_toml.proofs.ModulusLists.{pairwise_coprime}
 use Rattle.problem_toml.proofs.moduli.moduli.Goals as goal

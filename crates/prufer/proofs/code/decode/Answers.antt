@@ -1,14 +1,17 @@
+-- After each letter, the edges made so far, put into the tree of the letters that are left, are the tree of the whole
+-- word (`IsDecoding`); the degrees tell the smallest leaf.
 use Rattle.std.proofs.Common.{◌≡◌, ℕ, ◌+◌, ◌<◌, ◌≤◌, ◌∷◌, List, [], length, drop, get_or, set, arith, sym, ap, ◌∙◌, subst, Some, Option, position, ◌==◌, suc, nat_lt, if◌then◌else◌}
 use Rattle.std.proofs.lemmas.List.{drop_more}
 use Rattle.std.proofs.Math.ListN.{drop_of_length-le}
-use Rattle.trees.specs.Words.{edge_between, insert_edge, count_in, decoded}
+use Rattle.trees.specs.Words.{edge_between, insert_edge, decoded}
+use Rattle.lists.specs.Members.{count_in}
 use Rattle.trees.proofs.TreeLaws.{tree-decoded}
 use Rattle.prufer.proofs.Leaves.{first_one}
 use Rattle.prufer.proofs.Decoding.{IsDecoding, decoding_start, decoding_step, decoding_end, letter_from, leaf_exists, last_two, last_exists}
 use Rattle.prufer.proofs.Trees.{fits_word, edge_list-tree}
 use Rattle.prufer.proofs.code.decode.Goals as goal
 
--- the letters from a place on, of which there is one
+-- the letters from an index on, of which there is one
 next_letter : (n : ℕ) (word letters degrees : List ℕ) (made : List (ℕ × ℕ)) (i : ℕ) → i < length letters → IsDecoding n word (drop i letters) degrees made
     → IsDecoding n word (get_or letters i 0 ∷ drop (i + 1) letters) degrees made
 next_letter n word letters degrees made i h s = subst (λ rest. IsDecoding n word rest degrees made) (drop_more letters i 0 h) s

@@ -1,3 +1,5 @@
+-- What fails the first test is no tree; every other list is a tree exactly if its word is found, and the word of a
+-- tree decodes to that tree.
 use Rattle.std.proofs.Common.{◌≡◌, ℕ, ◌+◌, ◌&&◌, ◌==◌, Bool, true, false, nat_lt, List, length, IsTrue, IfOk, rules, sym, ap, ◌∙◌, refl}
 use Rattle.std.specs.List.{list_all}
 use Rattle.std.proofs.lemmas.Result.{IfOk-weaker}

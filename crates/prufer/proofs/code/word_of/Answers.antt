@@ -1,3 +1,5 @@
+-- After each leaf, the edges that are left can be taken apart leaf by leaf exactly if all edges can (`IsEncoding`); a
+-- missing leaf shows that they are no tree.
 use Rattle.std.proofs.Common.{◌≡◌, ◌+◌, ◌-◌, Bool, true, false, arith, refl, ap, ◌∙◌}
 use Rattle.trees.specs.Edges.{is_tree}
 use Rattle.trees.specs.Words.{degree_of}

@@ -1,6 +1,6 @@
 use Rattle.std.proofs.Common.{◌≡◌, ℕ, ◌+◌, ◌<◌, ◌≤◌, ◌==◌, Bool, true, false, if◌then◌else◌, List, drop, length, set, get_or, arith, ◌∙◌, length-set}
 use Rattle.trees.specs.Words.{degree_of}
-use Rattle.prufer.proofs.Counting.{get_or-raised, degree_of-drop, degree_of_le, touches_twice, EndsAt, ends_at}
+use Rattle.prufer.proofs.DegreeCounts.{get_or-raised, degree_of-drop, degree_of_le, touches_twice, EndsAt, ends_at}
 use Rattle.prufer.proofs.degrees.degrees_of_edges.Goals as goal
 
 raise : List ℕ → ℕ → List ℕ

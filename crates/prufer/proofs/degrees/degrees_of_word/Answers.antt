@@ -1,9 +1,11 @@
+-- After each letter, the degree that is kept for a vertex and its count in the letters that are left add up to what
+-- they were at the start; at the end no letter is left.
 use Rattle.std.proofs.Common.{◌≡◌, ℕ, suc, ◌+◌, ◌<◌, ◌≤◌, Bool, true, false, nat_lt, if◌then◌else◌, List, take, drop, zero, length, set, get_or, arith, ap, ◌∙◌, refl, All, replicate, ◌++◌, ◌-◌, ltb-true, length-set}
 use Rattle.std.proofs.lemmas.Bool.Decides.{nat_tests}
 use Rattle.std.proofs.Math.ListN.{drop_of_length-le}
 use Rattle.std.proofs.lemmas.List.{get_or_append_left, get_or-append_right, get_or-replicate, length-replicate, length-append, length-take-le, drop-replicate}
-use Rattle.trees.specs.Words.{count_in}
-use Rattle.prufer.proofs.Counting.{get_or-raised, count_in-drop, count_in_le, count_in_outside, letter_below}
+use Rattle.lists.specs.Members.{count_in}
+use Rattle.prufer.proofs.DegreeCounts.{get_or-raised, count_in-drop, count_in_le, count_in_outside, letter_below}
 use Rattle.prufer.proofs.degrees.degrees_of_word.Goals as goal
 
 -- ones at the places below n, and zeros after them

@@ -1,5 +1,5 @@
 use Rattle.std.proofs.Common.{◌≡◌, ℕ, ◌+◌, ◌<◌, nat_lt, if◌then◌else◌, drop, length, slice_index}
-use Rattle.trees.specs.Words.{count_in}
+use Rattle.lists.specs.Members.{count_in}
 use Rattle.prufer.proofs.degrees.degrees_of_word.Given as goal
 
 abbrev pub invariant-loop-letter : goal.invariant-loop-letter

@@ -1,7 +1,7 @@
 use Rattle.std.proofs.Common.{refl, sym, ap, ◌∙◌, arith, slice_index}
 use Rattle.localisation.specs.Agreement.{is_bad_for}
 use Rattle.range_sum.proofs.BadTrees.{bad_by_modulus, good_by_moduli, is_bad_at}
-use Rattle.trees.specs.Numbers.{tree_of}
+use Rattle.trees.specs.TreeNumbers.{tree_of}
 use Rattle.range_sum.proofs.bad.first_bad_modulus.Goals as goal
 
 pub returns-then-is_bad_at-clause-none : goal.returns-then-is_bad_at-clause-none

@@ -1,6 +1,6 @@
 use Rattle.std.proofs.Common.{◌≡◌, ◌≤◌, ◌<◌, IsTrue}
 use Rattle.trees.specs.Decorated.{is_decorated}
-use Rattle.trees.specs.Numbers.{tree_of}
+use Rattle.trees.specs.TreeNumbers.{tree_of}
 use Rattle.decorated_tree.specs.Trees.{tree_view, is_padded}
 use Rattle.localisation.specs.Contribution.{partial_sum}
 use Rattle.range_sum.specs.Totals.{AreRatiosOf}

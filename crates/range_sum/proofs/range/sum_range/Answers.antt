@@ -3,7 +3,9 @@
 use Rattle.std.proofs.Common.{refl, ◌∙◌, ◌+◌, ◌≤◌, arith}
 use Rattle.problem.specs.Problems.{view}
 use Rattle.problem.specs.Sums.{is_bad_of}
-use Rattle.range_sum.proofs.RangeLaws.{no_numbers, none_append, sums_to, all_numbers, zeros}
+use Rattle.range_sum.proofs.RangeLaws.{no_numbers, sums_to, all_numbers}
+use Rattle.localisation.proofs.AllNumbers.{none_append}
+use Rattle.lists.proofs.Padding.{zeros}
 use Rattle.range_sum.proofs.BlockLaws.{sums_more}
 use Rattle.range_sum.proofs.range.sum_range.Goals as goal
 

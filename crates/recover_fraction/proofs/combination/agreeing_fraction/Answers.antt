@@ -1,8 +1,8 @@
 use Rattle.std.proofs.Common.{◌≡◌, ℕ, ℤ, Option, Some, None, IfSome, List, sym, subst}
-use Rattle.localisation.specs.Agreement.{Agrees}
+use Rattle.arithmetic.specs.Agreement.{Agrees, AgreesModulo}
 use Rattle.recover_fraction.specs.declared.recovery.Fraction.{Fraction}
-use Rattle.recover_fraction.specs.Agreement.{AgreesModulo, KeepsAgreement}
-use Rattle.trees.specs.Numbering.{product_of}
+use Rattle.recover_fraction.specs.Agreement.{KeepsAgreement}
+use Rattle.lists.specs.Digits.{product_of}
 use Rattle.recover_fraction.proofs.combination.agreeing_fraction.Goals as goal
 
 -- one modulus that is the product stands for all moduli

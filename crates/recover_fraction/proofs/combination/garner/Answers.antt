@@ -1,3 +1,5 @@
+-- After the moduli so far, the number is the only one below their product with their residues, and the product is
+-- coprime to each modulus that is left (`IsSoFar`).
 use Rattle.std.proofs.Common.{◌≡◌, ◌+◌, ◌*◌, ◌%◌, ◌<◌, ◌^◌, sym, subst, ◌∙◌, arith, slice_index}
 use Rattle.std.proofs.lemmas.Option.{get_or_from_slice_get}
 use Rattle.arithmetic.specs.Numbers.{gcd}

@@ -1,8 +1,10 @@
+-- The two remainders keep what `IsRun` says of them; at the first remainder that is at most the bound, the pair found
+-- agrees if any pair does, and no other pair can.
 use Rattle.std.proofs.Common.{◌≡◌, ℕ, ◌<◌, ◌^◌, rules, ℤ, Bool, if◌then◌else◌, pos, neg_ℤ, refl, sym, subst, ◌∙◌, arith, to_z, of_z, w64}
 use Rattle.std.proofs.lemmas.Int.{to_z-of_z}
 use Rattle.std.specs.Int.Signed.{mag}
-use Rattle.recover_fraction.specs.Agreement.{AgreesModulo}
-use Rattle.recover_fraction.proofs.Signs.{signed, signed_is}
+use Rattle.arithmetic.specs.Agreement.{AgreesModulo}
+use Rattle.recover_fraction.proofs.SignedResidues.{signed, signed_is}
 use Rattle.recover_fraction.proofs.OnlyPair.{stop, only, agrees, needed}
 use Rattle.recover_fraction.proofs.Stops.{first_run, next_run}
 use Rattle.recover_fraction.proofs.recovery.recover.Goals as goal

@@ -4,8 +4,8 @@ use Rattle.std.proofs.Common.{get_or, pos, ap, ◌∙◌, subst, arith}
 use Rattle.std.proofs.lemmas.List.{take_all}
 use Rattle.arithmetic.specs.Fractions.{IsResidue}
 use Rattle.arithmetic.proofs.Residues.{IsResidue-whole}
-use Rattle.residue.specs.declared.class.Class.TheVariants.{Mark, Contact}
-use Rattle.residue.specs.declared.class.Power.{Power}
+use Rattle.classes.specs.declared.class.Class.TheVariants.{Mark, Contact}
+use Rattle.classes.specs.declared.class.Power.{Power}
 use Rattle.class_factor.specs.Powers.{power_value, value_of_powers}
 use Rattle.class_factor.proofs.Values.{product-more}
 use Rattle.factor_table.specs.Factors.{class_at}

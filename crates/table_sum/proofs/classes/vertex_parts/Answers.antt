@@ -1,7 +1,7 @@
 -- The loop keeps the residue of the product of the class's parts at the vertices so far.
 use Rattle.std.proofs.Common.{◌≡◌, pos, subst, ap₂, length, map, ◌∙◌, sym, ap, arith}
 use Rattle.arithmetic.specs.Fractions.{product_of_fractions, IsResidue}
-use Rattle.trees.specs.Edges.{below}
+use Rattle.lists.specs.Ranges.{below}
 use Rattle.arithmetic.proofs.Residues.{IsResidue-whole}
 use Rattle.localisation.specs.ClassValue.{class_vertex}
 use Rattle.tree_parts.proofs.Edgewise.{length-ends_of}

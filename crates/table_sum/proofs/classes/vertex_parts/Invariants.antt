@@ -1,6 +1,6 @@
 use Rattle.std.proofs.Common.{map}
 use Rattle.arithmetic.specs.Fractions.{product_of_fractions, IsResidue}
-use Rattle.trees.specs.Edges.{below}
+use Rattle.lists.specs.Ranges.{below}
 use Rattle.class_factor.specs.Vertices.{class_at_vertex}
 use Rattle.factor_table.specs.Factors.{class_at}
 use Rattle.factor_table.specs.Seats.{parameters_of}

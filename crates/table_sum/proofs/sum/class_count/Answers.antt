@@ -1,6 +1,6 @@
 use Rattle.std.proofs.Common.{length, sym, arith}
 use Rattle.std.proofs.lemmas.List.{length-map}
-use Rattle.residue.specs.declared.class.Power.{Power}
+use Rattle.classes.specs.declared.class.Power.{Power}
 use Rattle.table_sum.specs.Classes.{classes_of_term}
 use Rattle.table_sum.proofs.ClassLaws.{item_counted, length-next}
 use Rattle.table_sum.proofs.sum.class_count.Goals as goal

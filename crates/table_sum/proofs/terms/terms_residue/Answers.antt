@@ -4,7 +4,7 @@ use Rattle.std.proofs.Common.{◌+◌, length, take, pos, sym, subst, arith}
 use Rattle.std.proofs.lemmas.List.{take_all, length-map}
 use Rattle.arithmetic.specs.Fractions.{IsResidue}
 use Rattle.arithmetic.proofs.Residues.{IsResidue-whole}
-use Rattle.residue.specs.declared.class.Power.{Power}
+use Rattle.classes.specs.declared.class.Power.{Power}
 use Rattle.contribution.specs.Terms.{IsTermFor, sum_of_terms}
 use Rattle.contribution.proofs.TermSums.{terms-more}
 use Rattle.factor_table.specs.Seats.{parameters_of}

@@ -3,7 +3,7 @@
 use Rattle.std.proofs.Common.{◌≡◌, pos, map, subst, arith}
 use Rattle.arithmetic.specs.Fractions.{product_of_fractions, IsResidue}
 use Rattle.arithmetic.proofs.Residues.{IsResidue-whole}
-use Rattle.trees.specs.Edges.{below}
+use Rattle.lists.specs.Ranges.{below}
 use Rattle.class_factor.proofs.Values.{product-vertex}
 use Rattle.contribution.specs.Terms.{vertex_at}
 use Rattle.factor_table.specs.Seats.{parameters_of}

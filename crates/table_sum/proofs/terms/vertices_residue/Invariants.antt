@@ -1,6 +1,6 @@
 use Rattle.std.proofs.Common.{map}
 use Rattle.arithmetic.specs.Fractions.{product_of_fractions, IsResidue}
-use Rattle.trees.specs.Edges.{below}
+use Rattle.lists.specs.Ranges.{below}
 use Rattle.contribution.specs.Terms.{vertex_at}
 use Rattle.factor_table.specs.Seats.{parameters_of}
 use Rattle.table_sum.specs.Words.{IsLater}

@@ -1,6 +1,7 @@
 use Rattle.std.proofs.Common.{◌<◌, sym, subst, arith}
 use Rattle.localisation.specs.Agreement.{modulus_at}
-use Rattle.range_sum.proofs.RangeLaws.{zeros, modulus_above}
+use Rattle.lists.proofs.Padding.{zeros}
+use Rattle.range_sum.proofs.RangeLaws.{modulus_above}
 use Rattle.table_sum.proofs.tests.block_sums.Goals as goal
 
 pub add_block-requires-clause-below : goal.add_block-requires-clause-below

@@ -1,5 +1,5 @@
 use Rattle.std.proofs.Common.{◌≡◌, ℕ, ◌<◌, ◌≤◌, [], filter, length, slice_index_or}
-use Rattle.trees.specs.Decorated.{counted_from}
+use Rattle.lists.specs.Ranges.{counted_from}
 use Rattle.tree_parts.specs.Marks.{is_at}
 use Rattle.tree_parts.proofs.marks.marks_by_vertex.Given as goal
 

@@ -1,5 +1,5 @@
 use Rattle.std.proofs.Common.{sym, ap, ◌*◌, ◌∙◌, take, map, arith}
-use Rattle.trees.specs.Numbering.{product_of}
+use Rattle.lists.specs.Digits.{product_of}
 use Rattle.arithmetic.specs.Numbers.{factorial}
 use Rattle.arithmetic.proofs.Factorials.{factorial_positive}
 use Rattle.vertex_factor.proofs.Multinomials.{product_fits, positive_product, bounded_more, one_more_factorial}

@@ -1,6 +1,6 @@
 use Rattle.std.proofs.Common.{◌≡◌, ◌≤◌, take, map, sum}
 use Rattle.arithmetic.specs.Numbers.{factorial}
-use Rattle.trees.specs.Numbering.{product_of}
+use Rattle.lists.specs.Digits.{product_of}
 use Rattle.vertex_factor.proofs.psi.product_of_factorials.Given as goal
 
 abbrev pub invariant-loop-exponent : goal.invariant-loop-exponent

@@ -1,6 +1,6 @@
 -- The sum of the first counts is the number of trees with fewer vertices, so it stays below the count of all trees.
 use Rattle.std.proofs.Common.{◌≤◌, ◌<◌, ◌+◌, ap, length, get_or, arith, ◌∙◌}
-use Rattle.trees.specs.Numbers.{tree_count}
+use Rattle.trees.specs.TreeNumbers.{tree_count}
 use Rattle.decorated_tree.proofs.Unranking.{length-counts_of, more_before, before_within}
 use Rattle.decorated_tree.proofs.shape.Shape.before.Goals as goal
 

@@ -1,5 +1,5 @@
 use Rattle.std.proofs.Common.{◌≡◌}
-use Rattle.trees.specs.Numbers.{trees_from}
+use Rattle.trees.specs.TreeNumbers.{trees_from}
 use Rattle.decorated_tree.proofs.shape.Shape.before.Given as goal
 
 abbrev pub invariant-loop-fewer : goal.invariant-loop-fewer

@@ -1,7 +1,7 @@
 use Rattle.std.proofs.Common.{◌≡◌, ◌<◌, length, sym, ◌∙◌, subst, arith}
 use Rattle.trees.specs.Correspondence.{NumbersAreTrees}
 use Rattle.trees.specs.Decorated.{all_trees}
-use Rattle.trees.proofs.NumberLaws.{length-all_trees, numbers_are_trees}
+use Rattle.trees.proofs.TreeNumbers.{length-all_trees, numbers_are_trees}
 use Rattle.decorated_tree.specs.ShapeFields.{IsShape, shape_from}
 use Rattle.decorated_tree.specs.declared.shape.Shape.TheInside.{Inside}
 use Rattle.decorated_tree.proofs.Counts.{limits}

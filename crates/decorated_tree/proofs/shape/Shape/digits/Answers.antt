@@ -2,7 +2,7 @@
 -- what each call requires.
 use Rattle.std.proofs.Common.{◌≡◌, ◌-◌, ◌++◌, ap, sym, ◌∙◌, subst, refl, arith, length, take, drop, true}
 use Rattle.trees.specs.Edges.{is_tree}
-use Rattle.trees.specs.Numbering.{AreDegrees}
+use Rattle.trees.specs.DegreeLists.{AreDegrees}
 use Rattle.decorated_tree.specs.Steps.{AreWithin}
 use Rattle.decorated_tree.proofs.Counts.{limits}
 use Rattle.decorated_tree.proofs.Fitting.{digits_of_shape, all_digits}

@@ -1,8 +1,8 @@
 -- The loop keeps the counts so far and their sum. It stops at the first count that is too large, or at the first sum
 -- above the limit; the total is then too large as well.
 use Rattle.std.proofs.Common.{◌≡◌, ◌+◌, ◌<◌, ◌-◌, ◌++◌, ◌∷◌, [], length, arith, sym, ap, ◌∙◌, refl, subst}
-use Rattle.trees.specs.Numbering.{product_of}
-use Rattle.trees.specs.Numbers.{trees_with}
+use Rattle.lists.specs.Digits.{product_of}
+use Rattle.trees.specs.TreeNumbers.{trees_with}
 use Rattle.decorated_tree.specs.Shapes.{shape_of}
 use Rattle.decorated_tree.proofs.Counts.{AreCounted, limits, length-counts, counted_push, too_many, counted_all}
 use Rattle.decorated_tree.proofs.shape.Shape.new.Goals as goal

@@ -2,8 +2,8 @@
 -- is the next one by definition.
 use Rattle.std.proofs.Common.{◌+◌, sym, subst, arith}
 use Rattle.trees.specs.Decorated.{all_trees}
-use Rattle.trees.specs.Members.{IsIn}
-use Rattle.trees.proofs.NumberLaws.{tree_of_in_all_trees}
+use Rattle.lists.specs.Members.{IsIn}
+use Rattle.trees.proofs.TreeNumbers.{tree_of_in_all_trees}
 use Rattle.decorated_tree.proofs.Counts.{limits}
 use Rattle.decorated_tree.proofs.NextTree.{decorated_before, number_after, tree_after}
 use Rattle.decorated_tree.proofs.shape.Shape.next.Goals as goal

@@ -5,8 +5,8 @@ use Rattle.std.proofs.Common.{◌≡◌, Bool, true, false, length, take, ap, sy
 use Rattle.std.specs.List.{list_all}
 use Rattle.std.proofs.lemmas.List.{length-take-le}
 use Rattle.trees.specs.Decorated.{TreeShape, ends_differ}
-use Rattle.trees.specs.Numbering.{AreDigits}
-use Rattle.trees.specs.Numbers.{bases}
+use Rattle.lists.specs.Digits.{AreDigits}
+use Rattle.trees.specs.TreeNumbers.{bases}
 use Rattle.decorated_tree.specs.declared.tree.Tree.{Tree}
 use Rattle.decorated_tree.specs.Steps.{AreWithin}
 use Rattle.decorated_tree.specs.Trees.{IsListed, is_tree_of}

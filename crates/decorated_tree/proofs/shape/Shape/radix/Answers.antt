@@ -1,6 +1,6 @@
 use Rattle.std.proofs.Common.{◌+◌, ◌≤◌, ◌<◌, arith, sym, subst}
 use Rattle.trees.specs.Decorated.{TreeShape}
-use Rattle.trees.specs.Numbers.{trees_with}
+use Rattle.trees.specs.TreeNumbers.{trees_with}
 use Rattle.decorated_tree.specs.Shapes.{shape_of}
 use Rattle.decorated_tree.proofs.Counts.{with_within, is_there}
 use Rattle.decorated_tree.proofs.shape.Shape.radix.Goals as goal

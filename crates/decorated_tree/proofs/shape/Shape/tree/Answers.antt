@@ -2,10 +2,10 @@
 -- all trees, and has this number.
 use Rattle.std.proofs.Common.{◌≡◌, ap, sym, ◌∙◌, subst, true, arith}
 use Rattle.trees.specs.Decorated.{is_decorated, all_trees}
-use Rattle.trees.specs.Members.{IsIn}
-use Rattle.trees.specs.Numbering.{split}
-use Rattle.trees.specs.Numbers.{tree_by, number_of}
-use Rattle.trees.proofs.NumberLaws.{tree_of_decorated, tree_of_in_all_trees, number_of-tree_of}
+use Rattle.lists.specs.Members.{IsIn}
+use Rattle.lists.specs.Digits.{split}
+use Rattle.trees.specs.TreeNumbers.{tree_by, number_of}
+use Rattle.trees.proofs.TreeNumbers.{tree_of_decorated, tree_of_in_all_trees, number_of-tree_of}
 use Rattle.decorated_tree.proofs.Counts.{limits}
 use Rattle.decorated_tree.proofs.shape.Shape.tree.Goals as goal
 

@@ -2,7 +2,7 @@
 -- the arrays that are filled from them are those of the tree of the digits (`filled_tree`).
 use Rattle.std.proofs.Common.{◌≡◌, ℕ, ◌+◌, ◌-◌, ◌*◌, ◌<◌, ◌≤◌, List, ap, sym, ◌∙◌, length, subst, take, drop, get_or, arith}
 use Rattle.std.proofs.lemmas.List.Elements.{All-weaker, All-same}
-use Rattle.trees.specs.Numbering.{choose}
+use Rattle.lists.specs.Binomials.{choose}
 use Rattle.decorated_tree.proofs.Counts.{limits}
 use Rattle.decorated_tree.proofs.Unranking.{digit_facts, filled_tree}
 use Rattle.decorated_tree.proofs.shape.Shape.tree_by.Goals as goal

@@ -1,5 +1,5 @@
 use Rattle.std.proofs.Common.{arith, ap, length}
-use Rattle.trees.specs.Padding.{length-front, padded-set}
+use Rattle.lists.proofs.Padding.{length-front, padded-set}
 use Rattle.decorated_tree.proofs.walk.Walk.push.Goals as goal
 
 pub invariant_of-self : goal.invariant_of-self

@@ -1,5 +1,5 @@
 use Rattle.std.proofs.Common.{Ok, sym, subst}
-use Rattle.residue.specs.declared.class.Class.{Class}
+use Rattle.classes.specs.declared.class.Class.{Class}
 use Rattle.residue.specs.Answers.{GivesResidue}
 use Rattle.residue.proofs.Quotients.{whole_gives}
 use Rattle.localisation.specs.Weights.{tangent_product}

@@ -1,4 +1,4 @@
-use Rattle.prufer.proofs.Counting.{upward_at}
+use Rattle.prufer.proofs.DegreeCounts.{upward_at}
 use Rattle.prufer.proofs.Trees.{edge_list}
 use Rattle.prufer.proofs.edges.Edges.pair.Goals as goal
 

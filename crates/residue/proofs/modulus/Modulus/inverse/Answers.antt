@@ -1,3 +1,5 @@
+-- The extended algorithm of Euclid: the two numbers keep their greatest common divisor, and each is `x` times its
+-- factor modulo the modulus; at the end it is 1 or there is no inverse.
 use Rattle.std.proofs.Common.{◌≡◌, ℕ, ◌≤◌, arith, refl, sym, ap, ◌∙◌}
 use Rattle.arithmetic.specs.Numbers.{gcd}
 use Rattle.arithmetic.proofs.Divisors.{gcd-mod, gcd_zero_left, gcd_comm}
@@ -16,7 +18,7 @@ loop-smaller-preserved c = record {
       c.loop-smaller.invariant.of_larger_is c.loop-smaller.invariant.of_smaller_is c.remainder-quotient.ensures.value c.mul.ensures.value c.sub-next.ensures.value;
 }
 
--- where the loop has ended, the larger number is the greatest common divisor
+-- when the loop has ended, the larger number is the greatest common divisor
 ended : (a b m x self : ℕ) → b ≤ 0 → m ≡ self → gcd a b ≡ gcd m x → gcd x self ≡ a
 ended a b m x self none e h =
     gcd_comm x self ∙ ap (λ n. gcd n x) (sym e) ∙ sym h ∙ gcd_zero_left a b (omega arith)

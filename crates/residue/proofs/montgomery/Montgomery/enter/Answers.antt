@@ -1,4 +1,4 @@
-use Rattle.residue.proofs.Reduction.{entered}
+use Rattle.residue.proofs.MontgomeryLaws.{entered}
 use Rattle.residue.proofs.montgomery.Montgomery.enter.Goals as goal
 
 pub returns-clause-value : goal.returns-clause-value

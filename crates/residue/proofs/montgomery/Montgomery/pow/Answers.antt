@@ -1,3 +1,4 @@
+-- By squaring: the power so far times the square to the exponent that is left is the whole power modulo the modulus.
 use Rattle.std.proofs.Common.{refl, ◌*◌, ◌%◌, ◌^◌, ◌/◌, arith, ap, ◌∙◌}
 use Rattle.residue.specs.Montgomery.{over_word}
 use Rattle.residue.proofs.Steps.{even_step, odd_step, last_step, last_odd_step, first_step, power_of_one}

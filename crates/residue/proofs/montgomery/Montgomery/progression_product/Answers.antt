@@ -1,9 +1,11 @@
+-- After each factor, `term` is the next term of the progression in Montgomery form and `product` the product of the
+-- terms so far, for every progression that leaves `first` and `step`.
 use Rattle.std.proofs.Common.{◌≡◌, ◌+◌, ◌-◌, ◌≤◌, ℕ, ℤ, pos, ◌*ℤ◌, sym, ◌∙◌, mod-eq_of_lt, subst, arith}
 use Rattle.std.proofs.lemmas.Int.{ints}
 use Rattle.arithmetic.specs.Numbers.{Leaves, product_below, progression}
 use Rattle.arithmetic.proofs.Modular.{Leaves-pos, Leaves-push}
 use Rattle.arithmetic.proofs.Progressions.{Leaves-progression, progression-zero}
-use Rattle.residue.proofs.Reduction.{sum_value}
+use Rattle.residue.proofs.MontgomeryLaws.{sum_value}
 use Rattle.residue.proofs.montgomery.Montgomery.progression_product.Goals as goal
 
 same : {m x y : ℕ} (z : ℤ) → Leaves m z x → y ≡ x → Leaves m z y

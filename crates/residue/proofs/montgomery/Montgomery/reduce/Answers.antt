@@ -1,5 +1,5 @@
 use Rattle.std.proofs.Common.{refl, arith}
-use Rattle.residue.proofs.Reduction.{reduced, reduced_once_less}
+use Rattle.residue.proofs.MontgomeryLaws.{reduced, reduced_once_less}
 use Rattle.residue.proofs.montgomery.Montgomery.reduce.Goals as goal
 
 pub returns-then-shifted-self-clause-value : goal.returns-then-shifted-self-clause-value

@@ -1,4 +1,4 @@
-use Rattle.residue.proofs.Reduction.{square_value}
+use Rattle.residue.proofs.MontgomeryLaws.{square_value}
 use Rattle.residue.proofs.montgomery.Montgomery.squared.Goals as goal
 
 pub returns-clause-value : goal.returns-clause-value

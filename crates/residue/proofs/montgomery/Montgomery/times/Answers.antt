@@ -1,4 +1,4 @@
-use Rattle.residue.proofs.Reduction.{times_value}
+use Rattle.residue.proofs.MontgomeryLaws.{times_value}
 use Rattle.residue.proofs.montgomery.Montgomery.times.Goals as goal
 
 pub returns-clause-value : goal.returns-clause-value

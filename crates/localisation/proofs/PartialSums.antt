@@ -3,9 +3,9 @@ use Rattle.std.proofs.Common.{◌≡◌, ℕ, zero, suc, ◌+◌, ◌-◌, ◌�
 use Rattle.std.proofs.lemmas.List.{map-append}
 use Rattle.arithmetic.specs.Fractions.{plus, sum_of_fractions}
 use Rattle.arithmetic.proofs.FractionSums.{plus-zero, sum_of_fractions-append}
-use Rattle.residue.specs.declared.class.Term.{Term}
+use Rattle.classes.specs.declared.class.Term.{Term}
 use Rattle.trees.specs.Decorated.{DecoratedTree, TreeShape}
-use Rattle.trees.specs.Numbers.{tree_of, numbered_trees}
+use Rattle.trees.specs.TreeNumbers.{tree_of, numbered_trees}
 use Rattle.localisation.specs.Contribution.{contribution, sum_over, partial_sum}
 
 pub numbered_trees-append : (s : TreeShape) (first a b : ℕ) → numbered_trees s first (a + b) ≡ numbered_trees s first a ++ numbered_trees s (first + a) b

@@ -2,12 +2,13 @@
 use Rattle.std.proofs.Common.{◌≡◌, ◌≢◌, ⊎_elim, ℕ, zero, suc, ◌+◌, ◌-◌, ◌<◌, ◌≤◌, Bool, true, false, ◌&&◌, ◌||◌, ◌==◌, nat_lt, if◌then◌else◌, List, [], ◌∷◌, length, drop, set, get_or, All, refl, sym, ap, ◌∙◌, subst, arith, eq-eqb, ltb-true}
 use Rattle.std.specs.List.{AllByRecursion, list_all}
 use Rattle.std.proofs.lemmas.List.{drop_more, get_or-set_same, get_or-set_other, length-set}
-use Rattle.std.proofs.lemmas.Bool.{cases_eq}
+use Rattle.std.proofs.lemmas.Bool.{cases_eq, and_parts}
 use Rattle.std.proofs.lemmas.List.Elements.{recursion_from_All}
 use Rattle.std.proofs.lemmas.Bool.Decides.{nat_tests}
-use Rattle.trees.specs.Words.{count_in, touches, degree_of}
+use Rattle.lists.specs.Members.{count_in}
+use Rattle.trees.specs.Words.{touches, degree_of}
 
--- a list of numbers after a write at a place
+-- a list of numbers after a write at an index
 pub get_or-set : (ds : List ℕ) (x v y : ℕ) → x < length ds → get_or (set ds x y) v 0 ≡ (if x == v then y else get_or ds v 0)
 get_or-set ds x v y h = ⊎_elim
     (λ e. subst (λ (u : ℕ). get_or (set ds x y) u 0 ≡ y) e (get_or-set_same ds x y 0 h) ∙ ap (λ (b : Bool). if b then y else get_or ds v 0) (sym (eq-eqb x v e)))
@@ -17,14 +18,14 @@ get_or-set ds x v y h = ⊎_elim
     apart : (x ≡ v → ⊥) → (x == v) ≡ false
     apart ne = grind (arith, nat_tests)
 
--- a list of numbers after one more at a place
+-- a list of numbers after one more at an index
 pub get_or-raised : (ds : List ℕ) (x v : ℕ) → x < length ds → get_or (set ds x (get_or ds x 0 + 1)) v 0 ≡ get_or ds v 0 + (if x == v then 1 else 0)
 get_or-raised ds x v h = get_or-set ds x v (get_or ds x 0 + 1) h ∙ step x v (get_or ds x 0) (get_or ds v 0) (λ e. ap (λ u. get_or ds u 0) e)
   where
     step : (x v a b : ℕ) → (x ≡ v → a ≡ b) → (if x == v then a + 1 else b) ≡ b + (if x == v then 1 else 0)
     step x v a b h = grind (arith, nat_tests)
 
--- a list of numbers after 0 at one place and one less at another
+-- a list of numbers after 0 at one index and one less at another
 pub get_or-taken_off : (ds : List ℕ) (k x v : ℕ) → k < length ds → x < length ds → k ≢ x
     → get_or (set (set ds k 0) x (get_or (set ds k 0) x 0 - 1)) v 0 ≡ (if k == v then 0 else get_or ds v 0 - (if x == v then 1 else 0))
 get_or-taken_off ds k x v h l ne =
@@ -83,11 +84,6 @@ touches_twice e v h = step e.0 e.1 v h
     step : (a b v : ℕ) → a < b → (if (a == v) || (b == v) then 1 else 0) ≡ (if a == v then 1 else 0) + (if b == v then 1 else 0)
     step a b v h = grind (arith, nat_tests)
 
-two : (a b : Bool) → (a && b) ≡ true → (a ≡ true) × (b ≡ true)
-two true true h = (refl, refl)
-two true false h = cc
-two false b h = cc
-
 parts : (a b c : Bool) → ((a && b) && c) ≡ true → (a ≡ true) × (b ≡ true) × (c ≡ true)
 parts true true true h = (refl, refl, refl)
 parts true true false h = cc
@@ -109,5 +105,5 @@ ends_at n (e ∷ es) (suc i) h k =
 
 pub upward_at : (es : List (ℕ × ℕ)) (i : ℕ) → list_all (λ e. nat_lt e.0 e.1) es ≡ true → i < length es → (get_or es i (0, 0)).0 < (get_or es i (0, 0)).1
 upward_at [] i h k = absurd (omega arith)
-upward_at (e ∷ es) zero h k = ltb-true e.0 e.1 (two (nat_lt e.0 e.1) (list_all (λ e. nat_lt e.0 e.1) es) h).0
-upward_at (e ∷ es) (suc i) h k = upward_at es i (two (nat_lt e.0 e.1) (list_all (λ e. nat_lt e.0 e.1) es) h).1 (omega arith)
+upward_at (e ∷ es) zero h k = ltb-true e.0 e.1 (and_parts (nat_lt e.0 e.1) (list_all (λ e. nat_lt e.0 e.1) es) h).0
+upward_at (e ∷ es) (suc i) h k = upward_at es i (and_parts (nat_lt e.0 e.1) (list_all (λ e. nat_lt e.0 e.1) es) h).1 (omega arith)

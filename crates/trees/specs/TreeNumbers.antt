@@ -1,12 +1,14 @@
 -- The number of trees of a shape, the tree of a number and the number of a tree.
 -- The numbering is this project's own: a smaller number of vertices comes first, and among the trees with the same number of
 -- vertices the digits are, most significant first, the letters of the Prüfer word, the colour of vertex 0, for each further vertex
--- the place of its colour among those other than the colour of its neighbour on the way to vertex 0, the rank of the list of
+-- the index of its colour among those other than the colour of its neighbour on the way to vertex 0, the rank of the list of
 -- degrees in lexicographic order, and the vertex of each mark.
 use Rattle.std.specs.Prelude.{ℕ, zero, suc, ◌+◌, ◌-◌, ◌*◌, nat_lt, if◌then◌else◌, List, [], ◌∷◌, ◌++◌, take, drop, get_or, replicate}
 use Rattle.trees.specs.Decorated.{DecoratedTree, TreeShape}
 use Rattle.trees.specs.Words.{decoded, encoded}
-use Rattle.trees.specs.Numbering.{product_of, joined, split, degree_lists, choose, rank_of}
+use Rattle.lists.specs.Digits.{product_of, joined, split}
+use Rattle.trees.specs.DegreeLists.{degree_lists, rank_of}
+use Rattle.lists.specs.Binomials.{choose}
 use Rattle.trees.specs.Walks.{walk_in, coloured, digits_of}
 
 -- the bases of the digits of a tree with n vertices

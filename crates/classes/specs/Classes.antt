@@ -1,11 +1,11 @@
 -- The classes that a tree with so many marks takes.
 use Rattle.std.specs.Prelude.{ℕ, ◌≤◌}
-use Rattle.residue.specs.declared.class.Class.{Class}
-use Rattle.residue.specs.declared.class.Class.TheVariants.{Mark, Hypersurface, Incidence, R1, Contact, Psi}
-use Rattle.residue.specs.declared.class.Power.{Power}
-use Rattle.residue.specs.Degrees.{HasParameterWithinLimit}
+use Rattle.classes.specs.declared.class.Class.{Class}
+use Rattle.classes.specs.declared.class.Class.TheVariants.{Mark, Hypersurface, Incidence, R1, Contact, Psi}
+use Rattle.classes.specs.declared.class.Power.{Power}
+use Rattle.classes.specs.Degrees.{HasParameterWithinLimit}
 
--- the mark of a class, where it has one, is from 1 to m
+-- the mark of a class, if it has one, is from 1 to m
 abbrev pub HasMarkWithin : ℕ → Class → Type 0
 HasMarkWithin m (Mark mark) = (1 ≤ mark) × (mark ≤ m)
 HasMarkWithin m (Hypersurface b) = Unit {0}

@@ -1,6 +1,6 @@
 //! Classes, their powers and terms: what is integrated.
 
-use crate::lists::Powers;
+use lists::Items;
 
 /// A class on the space of stable maps of degree `d` with marks 1 to `m`.
 ///
@@ -24,12 +24,12 @@ pub enum Class {
 
 impl Class {
     ghost use Rattle.std.specs.Prelude.{◌≡◌, ◌≤◌};
-    ghost use Rattle.residue.specs.Degrees.{HasParameterWithinLimit, class_degree};
+    ghost use Rattle.classes.specs.Degrees.{HasParameterWithinLimit, class_degree};
 
     /// The degree of the class on the maps of degree `d`, from 1 to 10: 1 for `Mark` and `Psi`, `b d + 1` for
     /// `Hypersurface`, `q - 1` for `Incidence`, `k d - 1` for `R1` and `2 d - 1` for `Contact`.
     ///
-    /// The parameter `b`, `q` or `k`, where the class has one, is within its limit.
+    /// The parameter `b`, `q` or `k`, if the class has one, is within its limit.
     pub fn degree(&self, d: u8) -> u64
         requires parameter { HasParameterWithinLimit self.now }
         requires d_positive { 1 ≤ d }
@@ -60,3 +60,12 @@ pub struct Term {
     pub coefficient: i64,
     pub classes: Powers,
 }
+
+/// The powers of classes of a term, in order.
+pub type Powers = Items<Power>;
+
+/// The terms of an integral, in order.
+pub type Terms = Items<Term>;
+
+/// The integrals of a problem over the same trees, in order.
+pub type Integrals = Items<Terms>;

@@ -3,10 +3,10 @@ use Rattle.std.proofs.Common.{◌≡◌, ℕ, zero, suc, ◌+◌, ◌-◌, ◌*�
 use Rattle.std.specs.Int.{◌∣◌}
 use Rattle.std.proofs.Math.Nat.{div-add-mod, mod-eq_of_lt, mod-lt}
 use Rattle.arithmetic.specs.Numbers.{reduce}
-use Rattle.arithmetic.proofs.NumberLaws.{same_from_divides, divides_from_same, reduce-pos, reduce-negsuc}
+use Rattle.arithmetic.proofs.ReduceLaws.{same_from_divides, divides_from_same, reduce-pos, reduce-negsuc}
 use Rattle.arithmetic.proofs.Congruences.{Same, same_refl, same_of_eq, same_sym, same_trans, same_add, same_mul, same_multiple, same_cancel}
 
--- r leaves what t x leaves modulo m or, where the sign is negative, what -t x leaves
+-- r leaves what t x leaves modulo m or, if the sign is negative, what -t x leaves
 pub data IsTimes (m x r t : ℕ) : Bool → Type 0 where
   plus : Same m r (t * x) → IsTimes m x r t false
   minus : Same m (r + t * x) 0 → IsTimes m x r t true
@@ -84,7 +84,7 @@ times_step m x a b t' t true (plus h) (minus k) =
     right t' q t x b = omega arith
 
 -- ---- whole numbers
--- n, or -n where the sign is negative
+-- n, or -n if the sign is negative
 abbrev pub signed : Bool → ℕ → ℤ
 signed false n = pos n
 signed true zero = pos 0

@@ -3,16 +3,16 @@ use Rattle.std.proofs.Common.{◌≡◌, ℕ, zero, suc, ◌+◌, ◌-◌, ◌<�
 use Rattle.std.proofs.lemmas.Bool.{cases_lt}
 use Rattle.std.proofs.lemmas.List.{length-map}
 use Rattle.std.proofs.lemmas.List.Sorted.{length_permutation}
-use Rattle.trees.specs.Edges.{below}
+use Rattle.lists.specs.Ranges.{below}
 use Rattle.trees.specs.Decorated.{DecoratedTree, TreeShape, is_decorated, all_trees}
-use Rattle.trees.specs.Numbering.{joined, split}
-use Rattle.trees.specs.Numbers.{bases, trees_with, trees_from, tree_count, tree_by, tree_from, tree_of, digits_by, number_of, numbered_trees}
+use Rattle.lists.specs.Digits.{joined, split}
+use Rattle.trees.specs.TreeNumbers.{bases, trees_with, trees_from, tree_count, tree_by, tree_from, tree_of, digits_by, number_of, numbered_trees}
 use Rattle.trees.specs.Correspondence.{NumbersAreTrees}
-use Rattle.trees.proofs.Listed.{IsIn}
+use Rattle.lists.specs.Members.{IsIn}
 use Rattle.trees.proofs.AllTrees.{IsDecorated, parts, in_all_trees, is_in_all_trees}
 use Rattle.trees.proofs.AllTrees
-use Rattle.trees.proofs.WordLaws.{length-below}
-use Rattle.trees.proofs.NumberingLaws.{split-joined, joined-split}
+use Rattle.lists.proofs.Different.{length-below}
+use Rattle.lists.proofs.Digits.{split-joined, joined-split}
 use Rattle.trees.proofs.TreeDigits.{tree_by_decorated, digits_by-tree_by, digits_by_digits, tree_by-digits_by}
 
 -- ---- over all numbers of vertices
@@ -25,11 +25,11 @@ pub record StandsWith (s : TreeShape) (n more k : ℕ) : Type 0 where
   pub tree : tree_from s n more k ≡ tree_by s (n + skipped) (split (bases s (n + skipped)) rest)
   pub is : trees_from s n skipped + rest ≡ k
 
-first_kind : (s : TreeShape) (n more k : ℕ) → k < trees_with s n → tree_from s n (suc more) k ≡ tree_by s n (split (bases s n) k)
+pub first_kind : (s : TreeShape) (n more k : ℕ) → k < trees_with s n → tree_from s n (suc more) k ≡ tree_by s n (split (bases s n) k)
 first_kind s n more k h =
     ap (λ (b : Bool). if b then tree_by s n (split (bases s n) k) else tree_from s (n + 1) more (k - trees_with s n)) (lt-ltb k (trees_with s n) h)
 
-later_kind : (s : TreeShape) (n more k : ℕ) → trees_with s n ≤ k → tree_from s n (suc more) k ≡ tree_from s (n + 1) more (k - trees_with s n)
+pub later_kind : (s : TreeShape) (n more k : ℕ) → trees_with s n ≤ k → tree_from s n (suc more) k ≡ tree_from s (n + 1) more (k - trees_with s n)
 later_kind s n more k h =
     ap (λ (b : Bool). if b then tree_by s n (split (bases s n) k) else tree_from s (n + 1) more (k - trees_with s n)) (le-ltb k (trees_with s n) h)
 

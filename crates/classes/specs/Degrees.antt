@@ -1,9 +1,9 @@
 -- The degrees of classes.
 use Rattle.std.specs.Prelude.{ℕ, ◌+◌, ◌-◌, ◌*◌, ◌≤◌}
-use Rattle.residue.specs.declared.class.Class.{Class}
-use Rattle.residue.specs.declared.class.Class.TheVariants.{Mark, Hypersurface, Incidence, R1, Contact, Psi}
+use Rattle.classes.specs.declared.class.Class.{Class}
+use Rattle.classes.specs.declared.class.Class.TheVariants.{Mark, Hypersurface, Incidence, R1, Contact, Psi}
 
--- the parameter of a class, where it has one, is within its limit
+-- the parameter of a class, if it has one, is within its limit
 abbrev pub HasParameterWithinLimit : Class → Type 0
 HasParameterWithinLimit (Mark mark) = Unit {0}
 HasParameterWithinLimit (Hypersurface b) = (1 ≤ b) × (b ≤ 64)

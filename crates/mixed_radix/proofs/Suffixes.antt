@@ -1,4 +1,4 @@
--- The digits from a place on, and the number that they stand for.
+-- The digits from an index on, and the number that they stand for.
 use Rattle.std.proofs.Common.{◌≡◌, ℕ, zero, suc, ◌+◌, ◌-◌, ◌*◌, ◌/◌, ◌%◌, ◌^◌, ◌<◌, ◌≤◌, ◌==◌, Bool, true, false, cond, List, [], ◌∷◌, length, drop, set, get_or, replicate, ◌⊎◌, inl, inr, Option, Some, None, position, refl, sym, ap, ap₂, ◌∙◌, arith, mul-pos, eqb-true, add-one, zero-mul, mul-zero, mod-lt}
 use Rattle.std.specs.List.{position_from}
 use Rattle.std.proofs.lemmas.Iterator.Adapters.{position_from-zero}
@@ -6,8 +6,8 @@ use Rattle.std.proofs.lemmas.Bool.Decides.{nat_tests}
 use Rattle.std.proofs.lemmas.List.{drop_more, drop-set}
 use Rattle.std.proofs.Math.Nat.{div-add-mod}
 use Rattle.std.proofs.Math.Seq.{drop-length}
-use Rattle.trees.specs.Numbering.{product_of, joined, split, AreDigits}
-use Rattle.trees.proofs.NumberingLaws.{split-joined}
+use Rattle.lists.specs.Digits.{product_of, joined, split, AreDigits}
+use Rattle.lists.proofs.Digits.{split-joined}
 
 -- ---- zeros among the bases
 zero_found : (bs : List ℕ) (i p : ℕ) → position_from (λ b. b == 0) i bs ≡ Some p → product_of bs ≡ 0
@@ -47,14 +47,11 @@ by_steps bs r h = sym (h ∙ position_from-zero (λ b. b == 0) bs)
 pub product-first_zero : (bs : List ℕ) (p : ℕ) → Some p ≡ position (λ b. b == 0) bs → product_of bs ≡ 0
 product-first_zero bs p h = zero_found bs 0 p (by_steps bs (Some p) h)
 
-pub first_zero_within : (bs : List ℕ) (p : ℕ) → Some p ≡ position (λ b. b == 0) bs → p < length bs
-first_zero_within bs p h = let w = zero_within bs 0 p (by_steps bs (Some p) h) in omega arith
-
 -- a list without a zero has a positive product
 pub product_positive : (bs : List ℕ) → None ≡ position (λ b. b == 0) bs → 0 < product_of bs
 product_positive bs h = no_zero_found bs 0 (by_steps bs None h)
 
--- ---- one place more
+-- ---- one base more
 pub product-drop : (bs : List ℕ) (i : ℕ) → i < length bs → product_of (drop i bs) ≡ get_or bs i 0 * product_of (drop (i + 1) bs)
 product-drop bs i h = ap product_of (drop_more bs i 0 h)
 
@@ -62,11 +59,7 @@ joined-cons : (bs xs : List ℕ) (i x : ℕ) (rest : List ℕ) → i < length bs
     → joined (drop i bs) (drop i xs) ≡ x * product_of (drop (i + 1) bs) + joined (drop (i + 1) bs) rest
 joined-cons bs xs i x rest h e = ap₂ joined (drop_more bs i 0 h) e
 
-pub joined-drop : (bs xs : List ℕ) (i : ℕ) → i < length bs → i < length xs
-    → joined (drop i bs) (drop i xs) ≡ get_or xs i 0 * product_of (drop (i + 1) bs) + joined (drop (i + 1) bs) (drop (i + 1) xs)
-joined-drop bs xs i h k = joined-cons bs xs i (get_or xs i 0) (drop (i + 1) xs) h (drop_more xs i 0 k)
-
--- the product from a place on is positive where the whole product is
+-- the product from an index on is positive if the whole product is
 pub product-drop_positive : (bs : List ℕ) (i : ℕ) → 0 < product_of bs → 0 < product_of (drop i bs)
 product-drop_positive bs zero h = h
 product-drop_positive [] (suc i) h = h
@@ -89,7 +82,7 @@ base_positive (b ∷ bs) (suc i) h k = base_positive bs i (factor b (product_of 
     factor b zero h = rw mul-zero at h
     factor b (suc q) h = omega arith
 
--- the product of all bases is above a limit where that of the first ones is
+-- the product of all bases is above a limit if that of the first ones is
 pub product_above : (m n b q p : ℕ) → p ≡ n * (b * q) → 0 < p → m < n * b → m < p
 product_above m n b zero p e some h = absurd (let z = mul-zero b in omega (arith, ap (λ z. n * z) z))
 product_above m n b (suc q) p e some h = omega arith
@@ -127,7 +120,7 @@ pub joined-set : (bs xs : List ℕ) (i x : ℕ) → AreDigits bs xs → i < leng
 joined-set bs xs i x h k = rw add-one (joined-set_suc bs xs i x h k)
 
 -- ---- splitting
--- the digits from a place on, and what is left of the number for the places before it
+-- the digits from an index on, and what is left of the number for the digits before it
 pub record IsSplitFrom (bs xs : List ℕ) (k rest i : ℕ) : Type 0 where
   pub number : k ≡ rest * product_of (drop i bs) + joined (drop i bs) (drop i xs)
   pub digits : AreDigits (drop i bs) (drop i xs)
@@ -229,7 +222,7 @@ join_end bs xs n [] ds e h s =
     record { value = same; below = rw same all.0; back = ap (split bs) same ∙ all.1 }
 
 -- ---- going on
--- the number with zeros from a place on, to which all numbers of these places and one more are still to be added
+-- the number with zeros from an index on, to which all numbers of these digits and one more are still to be added
 pub record IsCarriedTo (bs old xs : List ℕ) (i : ℕ) : Type 0 where
   pub number : joined bs old + 1 ≡ joined bs xs + product_of (drop i bs)
   pub digits : AreDigits bs xs

@@ -1,4 +1,4 @@
--- Laws of whole numbers, and of their residues modulo m.
+-- What a sum, a product and a power leave modulo m, and which numbers leave the same.
 use Rattle.std.proofs.Common.{◌≡◌, ℕ, zero, suc, ◌+◌, ◌-◌, ◌*◌, ◌/◌, ◌%◌, ◌<◌, ℤ, pos, negsuc, ◌+ℤ◌, ◌-ℤ◌, ◌*ℤ◌, nat_abs, refl, sym, ap, subst, ◌∙◌, arith, ⊎_elim}
 use Rattle.arithmetic.specs.Numbers.{power, reduce, gcd}
 use Rattle.arithmetic.proofs.Euclid.{last_remainder, gcd_by_euclid}
@@ -7,7 +7,7 @@ use Rattle.std.proofs.Math.Nat.{add-mod, add-mul-mod_self_left, mod-lt, div-add-
 use Rattle.std.specs.Int.{◌∣◌}
 use Rattle.std.proofs.Math.IntN.{ -ℤ-+ℤ_cancel}
 use Rattle.std.proofs.lemmas.Bool.{cases_lt}
-use borrow.Author.Differences.{up, down, same_in, sum_is_lem, product_is}
+use borrow.Author.Differences.{up, down, sum_is_lem, product_is}
 
 worked_gcd : gcd 123456789012345678 987654321987654321 ≡ 9
 unfolding last_remainder
@@ -15,26 +15,6 @@ worked_gcd = gcd_by_euclid _ _ 9 refl
 
 worked_power : power (negsuc 1) 5 ≡ negsuc 31
 worked_power = refl
-
--- ---- the ring
-pub *ℤ_assoc : (a b c : ℤ) → a *ℤ b *ℤ c ≡ a *ℤ (b *ℤ c)
-*ℤ_assoc a b c =
-    let l = product_is (a *ℤ b) c in
-    let r = product_is a (b *ℤ c) in
-    let ab = product_is a b in
-    let bc = product_is b c in
-    same_in (a *ℤ b *ℤ c) (a *ℤ (b *ℤ c)) (rw (l.0, l.1, r.0, r.1, ab.0, ab.1, bc.0, bc.1) (omega arith))
-
-pub *ℤ-+ℤ : (a b c : ℤ) → a *ℤ (b +ℤ c) ≡ a *ℤ b +ℤ a *ℤ c
-*ℤ-+ℤ a b c =
-    let l = product_is a (b +ℤ c) in
-    let ab = product_is a b in
-    let ac = product_is a c in
-    let s = sum_is_lem b c in
-    let s₁ = ap (λ x. up a * x) s in
-    let s₂ = ap (λ x. down a * x) s in
-    let t = sum_is_lem (a *ℤ b) (a *ℤ c) in
-    same_in (a *ℤ (b +ℤ c)) (a *ℤ b +ℤ a *ℤ c) (omega (arith, l, ab, ac, s₁, s₂, t))
 
 -- ---- residues
 -- a natural number that leaves what z leaves modulo one more than p
@@ -103,7 +83,7 @@ pub reduce_below : (m : ℕ) (z : ℤ) → 0 < m → reduce m z < m
 reduce_below zero z h = absurd (omega arith)
 reduce_below (suc p) z h = rw (reduce-image p z) (mod-lt (image p z) (zero-lt-suc p))
 
--- m divides z exactly where z leaves 0
+-- m divides z exactly if z leaves 0
 pub divides_from_reduce : (m : ℕ) (z : ℤ) → 0 < m → reduce m z ≡ 0 → m ∣ nat_abs z
 unfolding reduce
 divides_from_reduce m (pos n) h e = dvd_of_mod-eq-zero m e
@@ -123,7 +103,7 @@ unfolding reduce
 reduce_from_divides m (pos n) h e = mod-eq-zero_of_dvd m e
 reduce_from_divides m (negsuc n) h e = last m n h (mod-eq-zero_of_dvd m e)
 
--- m divides a difference exactly where both sides leave the same
+-- m divides a difference exactly if both sides leave the same
 pub same_from_divides : (m : ℕ) (a b : ℤ) → 0 < m → m ∣ nat_abs (a -ℤ b) → reduce m a ≡ reduce m b
 same_from_divides m a b h d =
     let none = reduce_from_divides m (a -ℤ b) h d in

@@ -1,9 +1,7 @@
-//! The lists of public types, which contracts see as plain lists.
+//! The list type of public types, which contracts see as a plain list.
 
 ghost use Rattle.std.specs.Prelude.{◌≡◌, ◌==◌, ◌<◌, length, slice_get, Some};
 
-use crate::class::{Power, Term};
-use crate::modulus::Modulus;
 use std::marker::Model;
 
 /// A list of items, in order.
@@ -11,21 +9,6 @@ use std::marker::Model;
 pub struct Items<T> {
     items: Vec<T>,
 }
-
-/// The moduli of a problem, in order.
-pub type Moduli = Items<Modulus>;
-
-/// The powers of classes of a term, in order.
-pub type Powers = Items<Power>;
-
-/// The terms of an integral, in order.
-pub type Terms = Items<Term>;
-
-/// The integrals of a problem over the same trees, in order.
-pub type Integrals = Items<Terms>;
-
-/// Residues, integral by integral and within one integral modulus by modulus.
-pub type Residues = Items<u64>;
 
 /// The bytes of a text.
 pub type Bytes = Items<u8>;
@@ -60,12 +43,12 @@ impl<T> Items<T> {
         self.items.is_empty()
     }
 
-    /// The item at a place below the length.
-    pub fn get(&self, place: usize) -> &T
-        requires { place < length self.now }
-        ensures { slice_get self.now place ≡ Some result.now }
+    /// The item at an index below the length.
+    pub fn get(&self, index: usize) -> &T
+        requires { index < length self.now }
+        ensures { slice_get self.now index ≡ Some result.now }
     {
-        &self.items[place]
+        &self.items[index]
     }
 
     /// The items as a slice.

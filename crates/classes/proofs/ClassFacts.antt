@@ -1,10 +1,10 @@
 -- That a class is within its limits has one proof at most, so that a type may keep it.
 use Rattle.std.proofs.Common.{ℕ}
 use Rattle.std.proofs.Props.{props}
-use Rattle.residue.specs.Classes.{HasMarkWithin}
-use Rattle.residue.specs.Degrees.{HasParameterWithinLimit}
-use Rattle.residue.specs.declared.class.Class.{Class}
-use Rattle.residue.specs.declared.class.Class.TheVariants.{Mark, Hypersurface, Incidence, R1, Contact, Psi}
+use Rattle.classes.specs.Classes.{HasMarkWithin}
+use Rattle.classes.specs.Degrees.{HasParameterWithinLimit}
+use Rattle.classes.specs.declared.class.Class.{Class}
+use Rattle.classes.specs.declared.class.Class.TheVariants.{Mark, Hypersurface, Incidence, R1, Contact, Psi}
 
 pub HasParameterWithinLimit-prop : (class : Class) → IsProp (HasParameterWithinLimit class)
 HasParameterWithinLimit-prop (Mark mark) = hlevel props

@@ -1,0 +1,5 @@
+pub mod Members
+pub mod Ranges
+pub mod Digits
+pub mod Binomials
+pub mod Padding
