@@ -1,6 +1,7 @@
 -- Rounds that were run without a bad number, and what they come to.
 use Rattle.std.proofs.Common.{◌≡◌, ◌≢◌, ℕ, zero, suc, ◌+◌, ◌-◌, ◌*◌, ◌^◌, ◌<◌, ◌≤◌, ◌==◌, All, Bool, true, false, if◌then◌else◌, List, ◌++◌, length, take, drop, min, replicate, sum, Option, Some, None, refl, sym, ap, ap₂, ◌∙◌, subst, arith, ⊎_elim, eqb-true, eq-eqb}
 use Rattle.std.proofs.lemmas.Bool.{cases_eq}
+use Rattle.std.proofs.lemmas.List.{length-replicate}
 use Rattle.std.proofs.lemmas.List.Sums.{get_or-le-sum_by, sum_by-cons}
 use Rattle.problem.specs.Rules.{KeepsRules}
 use Rattle.problem.specs.Sums.{count_of, is_bad_of}
@@ -191,6 +192,21 @@ no_shares (suc n) = let e = sum_by-cons (λ (x : ℕ). x) 0 (replicate n 0) in l
 
 pub stayed_on : {a b c : ℕ} {x y z : Option (List ℕ)} → Stayed a b x y → Stayed b c y z → Stayed a c x z
 stayed_on p q = record { count = q.count ∙ p.count; name = q.name ∙ p.name }
+
+-- no tree is left, so no round is run
+pub ends_at_once : (s : SumView) (budget workers : ℕ) (residues shares : List ℕ) → KeepsRules s.problem → s.next ≡ count_of s.problem
+    → AreResidues s.problem s.residues → residues ≡ s.residues → shares ≡ replicate workers 0
+    → IsProgress s budget workers (record { outcome = Done residues; shares = shares })
+ends_at_once s budget workers residues shares rules last are same none = record {
+  rounds = 0;
+  outcome = record {
+    rounds = λ round lt. absurd (omega arith);
+    last = omega arith;
+    summed = subst (λ xs. IsSummed s (count_of s.problem) xs) (sym same) (subst (λ n. IsSummed s n s.residues) last (nothing_summed s rules are));
+  };
+  one_each = ap length none ∙ length-replicate {A = ℕ} workers 0;
+  blocks = ap sum none ∙ no_shares workers;
+}
 
 -- ---- the code's words
 step_is : (s : SumView) (budget end at step : ℕ) → end ≡ end_of s budget → step ≡ min 65536 (end - at) → at + step ≡ at + min 65536 (end_of s budget - at)

@@ -31,7 +31,7 @@ const ROUND: u64 = 65_536;
 ///
 /// After each round the first of these that holds ends the call: a tree of the round is bad; no tree is left; the
 /// budget is used up; a name for stops was given and the stopper, which is asked now about that name, says yes. If no
-/// tree is left at the start, the call is done at once.
+/// tree is left at the start, the call is done at once, and takes memory for the residues alone.
 ///
 /// All workers share a table of factors, which the call makes before its first round and fills as it goes.
 ///
@@ -82,6 +82,12 @@ pub fn advance_problem<R: Threads + Sync, S: Stopper, G: Gate>(
     ensures refused { OnErr result
         (Stayed (S.stops stopper.old) (S.stops stopper.new) (S.last_stop stopper.old) (S.last_stop stopper.new)) }
 {
+    if next == problem.shape.count() {
+        let residues = Residues::of(Vec::from_slice(alloc, residues)?);
+        let outcome = Outcome::Done { residues };
+        let shares = Shares::new(workers);
+        return Ok(Progress { outcome, shares });
+    }
     let (table, seats) = problem_table(alloc, problem, workers)?;
     let mut parts = new_parts(alloc, seats)?;
     let sum = TableSum::of(problem, &table);

@@ -1,6 +1,6 @@
 -- The rounds are run with a table and parts made for this problem. The other clauses follow from the outcome of the
 -- rounds: true sums stay true, and chains of calls come to what one call comes to.
-use Rattle.std.proofs.Common.{◌≡◌, ℕ, List, length, All, Result, Ok, Err, IfOk, sym, ap, ◌∙◌, subst}
+use Rattle.std.proofs.Common.{◌≡◌, ◌≤◌, ℕ, List, length, All, Result, Ok, Err, IfOk, sym, ap, ◌∙◌, subst}
 use Rattle.problem.specs.declared.problem.Problem.{Problem}
 use Rattle.problem.specs.Problems.{view as problem_view}
 use Rattle.factor_table.specs.declared.table.FactorTable.{FactorTable}
@@ -8,9 +8,11 @@ use Rattle.factor_table.specs.declared.table.FactorSeat.{FactorSeat}
 use Rattle.factor_table.specs.Seats.{IsSeatOf}
 use Rattle.sum_job.specs.declared.part.PartSum.{PartSum}
 use Rattle.table_sum.specs.Sums.{problem_of, table_of}
-use Rattle.rounds.specs.Outcomes.{SumView, IsProgress}
+use Rattle.problem.specs.Sums.{count_of}
+use Rattle.rounds.specs.Outcomes.{SumView, IsProgress, IsOfProblem, KeepsTruth}
+use Rattle.rounds.specs.Chains.{IsChain, IsEndOfChain}
 use Rattle.rounds.specs.declared.progress.Progress.{Progress}
-use Rattle.rounds.proofs.Running.{of_problem, truth_of}
+use Rattle.rounds.proofs.Running.{of_problem, truth_of, ends_at_once}
 use Rattle.rounds.proofs.ChainLaws.{ends_chain}
 use Rattle.rounds.proofs.advancing.advance_problem.Goals as goal
 
@@ -29,6 +31,25 @@ over p q next residues budget many workers result e f h =
     subst (λ (x : Problem). IfOk result (IsProgress (sum_from x next residues) budget workers)) e
     (subst (λ n. IfOk result (IsProgress (sum_from q next residues) budget n)) f h)
 
+-- ---- what follows of the progress of a call
+in_problem : {E : Type 0} (p : Problem) (next : ℕ) (residues : List ℕ) (budget workers : ℕ) (result : Result Progress E)
+    → IfOk result (IsProgress (sum_from p next residues) budget workers) → IfOk result (λ to. IsOfProblem (problem_view p) to.outcome)
+in_problem p next residues budget workers result =
+    of_value _ _ result (λ to is. of_problem (sum_from p next residues) budget is.rounds to.outcome is.outcome)
+
+true_still : {E : Type 0} (p : Problem) (next : ℕ) (residues : List ℕ) (budget workers : ℕ) (result : Result Progress E) → next ≤ count_of (problem_view p)
+    → IfOk result (IsProgress (sum_from p next residues) budget workers) → IfOk result (λ to. KeepsTruth (sum_from p next residues) to.outcome)
+true_still p next residues budget workers result most =
+    of_value _ _ result (λ to is. truth_of (sum_from p next residues) budget workers to p.rules most is)
+
+chained : {E : Type 0} (p : Problem) (next : ℕ) (residues : List ℕ) (budget workers : ℕ) (result : Result Progress E) → next ≤ count_of (problem_view p)
+    → IfOk result (IsProgress (sum_from p next residues) budget workers)
+    → IfOk result (λ to. (first : ℕ) (begin : List ℕ) → IsChain (problem_view p) first begin next residues → IsEndOfChain (sum_from p first begin) to.outcome)
+chained p next residues budget workers result most =
+    of_value _ _ result (λ to is. λ first begin chain.
+    ends_chain (problem_view p) first begin next residues budget is.rounds to.outcome p.rules most chain is.outcome)
+
+-- ---- with rounds
 pub run_rounds-requires-clause-seats : goal.run_rounds-requires-clause-seats
 run_rounds-requires-clause-seats g c κs within =
     let seats : All (λ (seat : FactorSeat). IsSeatOf seat c.in_ok-table.table) c.in_ok-table.seats.items = λ k d lt. (c.in_ok-table.ensures.seated k d lt).0 in
@@ -44,27 +65,43 @@ returns-clause-progress g c =
 
 pub returns-clause-of_problem : goal.returns-clause-of_problem
 returns-clause-of_problem g c =
-    let s = sum_from c.args.problem.now c.args.next c.args.residues.now in
-    of_value _ _ c.run_rounds.result (λ progress is. of_problem s c.args.budget is.rounds progress.outcome is.outcome)
+    in_problem c.args.problem.now c.args.next c.args.residues.now c.args.budget c.args.workers c.run_rounds.result
     (over c.args.problem.now (problem_of c.of-sum.result) c.args.next c.args.residues.now c.args.budget (length c.as_mut_slice.result.now) c.args.workers
     c.run_rounds.result c.of-sum.ensures.problem
     (ap length c.as_mut_slice.ensures.value ∙ c.in_ok-parts.ensures.many ∙ c.in_ok-table.ensures.seats) c.run_rounds.ensures.progress)
 
 pub returns-clause-truth : goal.returns-clause-truth
 returns-clause-truth g c =
-    let s = sum_from c.args.problem.now c.args.next c.args.residues.now in
-    of_value _ _ c.run_rounds.result
-    (λ progress is. truth_of s c.args.budget c.args.workers progress c.args.problem.now.rules c.requires.next is)
+    true_still c.args.problem.now c.args.next c.args.residues.now c.args.budget c.args.workers c.run_rounds.result c.requires.next
     (over c.args.problem.now (problem_of c.of-sum.result) c.args.next c.args.residues.now c.args.budget (length c.as_mut_slice.result.now) c.args.workers
     c.run_rounds.result c.of-sum.ensures.problem
     (ap length c.as_mut_slice.ensures.value ∙ c.in_ok-parts.ensures.many ∙ c.in_ok-table.ensures.seats) c.run_rounds.ensures.progress)
 
 pub returns-clause-chain : goal.returns-clause-chain
 returns-clause-chain g c =
-    of_value _ _ c.run_rounds.result
-    (λ progress is. λ first begin chain.
-    ends_chain (problem_view c.args.problem.now) first begin c.args.next c.args.residues.now c.args.budget is.rounds progress.outcome
-    c.args.problem.now.rules c.requires.next chain is.outcome)
+    chained c.args.problem.now c.args.next c.args.residues.now c.args.budget c.args.workers c.run_rounds.result c.requires.next
     (over c.args.problem.now (problem_of c.of-sum.result) c.args.next c.args.residues.now c.args.budget (length c.as_mut_slice.result.now) c.args.workers
     c.run_rounds.result c.of-sum.ensures.problem
     (ap length c.as_mut_slice.ensures.value ∙ c.in_ok-parts.ensures.many ∙ c.in_ok-table.ensures.seats) c.run_rounds.ensures.progress)
+
+-- ---- without a round, since no tree is left
+pub returns-then-next-count-clause-progress : goal.returns-then-next-count-clause-progress
+returns-then-next-count-clause-progress g c =
+    let p = c.args.problem.now in
+    ends_at_once (sum_from p c.args.next c.args.residues.now) c.args.budget c.args.workers c.of-residues.result c.new-shares.result
+    p.rules (c.if-next-count.true ∙ c.count.ensures.value) c.requires.residues (c.of-residues.ensures ∙ c.in_ok-from_slice.ensures.items) c.new-shares.ensures
+
+pub returns-then-next-count-clause-of_problem : goal.returns-then-next-count-clause-of_problem
+returns-then-next-count-clause-of_problem g c =
+    let p = c.args.problem.now in
+    in_problem {E = ℕ} p c.args.next c.args.residues.now c.args.budget c.args.workers (Ok _) (returns-then-next-count-clause-progress g c)
+
+pub returns-then-next-count-clause-truth : goal.returns-then-next-count-clause-truth
+returns-then-next-count-clause-truth g c =
+    let p = c.args.problem.now in
+    true_still {E = ℕ} p c.args.next c.args.residues.now c.args.budget c.args.workers (Ok _) c.requires.next (returns-then-next-count-clause-progress g c)
+
+pub returns-then-next-count-clause-chain : goal.returns-then-next-count-clause-chain
+returns-then-next-count-clause-chain g c =
+    let p = c.args.problem.now in
+    chained {E = ℕ} p c.args.next c.args.residues.now c.args.budget c.args.workers (Ok _) c.requires.next (returns-then-next-count-clause-progress g c)
