@@ -28,10 +28,10 @@ source_takes : (text source rest : List ℕ) → source_at text ≡ Some (source
 unfolding source_at
 source_takes text source rest h =
     let found : ℕ × List ℕ → Option (List ℕ × List ℕ) =
-        λ x. option_map (λ rest. (take x.0 x.1, rest)) (after_word (codes "\n") (drop x.0 x.1)) in
+    λ x. option_map (λ rest. (take x.0 x.1, rest)) (after_word (codes "\n") (drop x.0 x.1)) in
     let a =
-        and_then_some (number_line_at (codes "problem ") text) (λ x. cond (ltb (length x.1) x.0) None (found x))
-        (source, rest) h in
+    and_then_some (number_line_at (codes "problem ") text) (λ x. cond (ltb (length x.1) x.0) None (found x))
+    (source, rest) h in
     let n = a.0.0 in
     let more = a.0.1 in
     let first = number_line_takes (codes "problem ") text n more a.1 in
@@ -40,8 +40,8 @@ source_takes text source rest h =
       | inr long ↦
           let enough : n ≤ length more = ltb-false _ _ long.0 in
           let e =
-              option_map_some (after_word (codes "\n") (drop n more)) (λ rest. (take n more, rest))
-              (source, rest) long.1 in
+          option_map_some (after_word (codes "\n") (drop n more)) (λ rest. (take n more, rest))
+          (source, rest) long.1 in
           let second = after_word_takes (codes "\n") (drop n more) e.0 e.1 in
           let len : length (take n more) ≡ n = omega (arith, length-take n more) in
           let regrouped : number_line (codes "problem ") n ++ (take n more ++ (codes "\n" ++ e.0)) ≡ (number_line (codes "problem ") n ++ take n more ++ codes "\n") ++ e.0 = simp append_assoc in
@@ -59,9 +59,9 @@ unfolding source_at
 source_again source rest small =
     let n = length source in
     let regrouped : source_text source ++ rest ≡ number_line (codes "problem ") n ++ (source ++ (codes "\n" ++ rest)) =
-        simp append_assoc in
+    simp append_assoc in
     let long : ltb (length (source ++ (codes "\n" ++ rest))) n ≡ false =
-        le-ltb _ _ (omega (arith, length-append source (codes "\n" ++ rest))) in
+    le-ltb _ _ (omega (arith, length-append source (codes "\n" ++ rest))) in
     ap source_at regrouped
     ∙ rw
     (number_line_again (codes "problem ") n (source ++ (codes "\n" ++ rest)) small, long, take_at source (codes "\n" ++ rest) n refl, drop_at source (codes "\n" ++ rest) n refl) refl
@@ -117,11 +117,11 @@ pub contents_take : (version : ℕ) (text : List ℕ) (c : Contents) → IsKnown
 unfolding contents_at
 contents_take version text c known h =
     let a =
-        bind_ok (ok_or (source_at text) BadBody)
-        (λ source. ok_or (number_line_at (codes "next ") source.1) BadBody >>= (λ next. rows_at next.1 >>= (λ rows. last_step version source.0 next.0 rows))) c h in
+    bind_ok (ok_or (source_at text) BadBody)
+    (λ source. ok_or (number_line_at (codes "next ") source.1) BadBody >>= (λ next. rows_at next.1 >>= (λ rows. last_step version source.0 next.0 rows))) c h in
     let b =
-        bind_ok (ok_or (number_line_at (codes "next ") a.0.1) BadBody)
-        (λ next. rows_at next.1 >>= (λ rows. last_step version a.0.0 next.0 rows)) c a.2 in
+    bind_ok (ok_or (number_line_at (codes "next ") a.0.1) BadBody)
+    (λ next. rows_at next.1 >>= (λ rows. last_step version a.0.0 next.0 rows)) c a.2 in
     let d = bind_ok (rows_at b.0.1) (λ rows. last_step version a.0.0 b.0.0 rows) c b.2 in
     let first = source_takes text a.0.0 a.0.1 (ok_or_ok _ _ _ a.1) in
     let second = number_line_takes (codes "next ") a.0.1 b.0.0 b.0.1 (ok_or_ok _ _ _ b.1) in
@@ -146,7 +146,7 @@ unfolding contents_at
 contents_again c are =
     let after = number_line (codes "next ") c.next ++ flat_map residue_line c.rows in
     let regrouped : rest_of c ≡ source_text c.source ++ after =
-        append_assoc (source_text c.source) (number_line (codes "next ") c.next) (flat_map residue_line c.rows) in
+    append_assoc (source_text c.source) (number_line (codes "next ") c.next) (flat_map residue_line c.rows) in
     ap (contents_at c.version) regrouped ∙ rw (
       source_again c.source after are.source,
       number_line_again (codes "next ") c.next (flat_map residue_line c.rows) are.next,
@@ -242,7 +242,7 @@ written_without_parts text none = by_seal (unsealed_at text) refl
 
     by_seal : (o : Option (List ℕ × List ℕ)) → unsealed_at text ≡ o
         → (ok_or o NotCheckpoint >>= (λ sealed. ok_or (number_line_at (codes "locus-checkpoint ") sealed.0) NotCheckpoint >>= (λ first. sound_at sealed.1 sealed.0 first.0 first.1)))
-            ≡ Err NotCheckpoint
+        ≡ Err NotCheckpoint
     by_seal None h = refl
     by_seal (Some x) h = by_first x.0 x.1 h (number_line_at (codes "locus-checkpoint ") x.0) refl
 

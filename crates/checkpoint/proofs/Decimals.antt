@@ -151,11 +151,11 @@ decimal_takes text n rest h =
       | inl starts ↦
           let t = number_takes 0 text n rest (omega arith) starts.1 in
           let here : starts_decimal (t.digits ++ rest) ≡ true =
-              subst (λ (x : List ℕ). starts_decimal x ≡ true) t.parts starts.0 in
+          subst (λ (x : List ℕ). starts_decimal x ≡ true) t.parts starts.0 in
           let plain = digits_plain t.digits rest t.all t.ends here in
           let is : decimal n ≡ t.digits =
-              ap decimal t.value ∙ decimal-digits_value own t.digits t.all plain.some plain.plain
-              (omega (arith, t.value, t.fits)) in
+          ap decimal t.value ∙ decimal-digits_value own t.digits t.all plain.some plain.plain
+          (omega (arith, t.value, t.fits)) in
           record { parts = t.parts ∙ ap (λ (d : List ℕ). d ++ rest) (sym is); fits = t.fits; ends = t.ends }
     ]
 
@@ -189,12 +189,12 @@ pub number_line_takes : (word text : List ℕ) (n : ℕ) (rest : List ℕ) → n
 unfolding number_line_at
 number_line_takes word text n rest h =
     let a =
-        and_then_some (after_word word text)
-        (λ rest. and_then (decimal_at rest) (λ x. option_map (λ rest. (x.0, rest)) (after_word (codes "\n") x.1)))
-        (n, rest) h in
+    and_then_some (after_word word text)
+    (λ rest. and_then (decimal_at rest) (λ x. option_map (λ rest. (x.0, rest)) (after_word (codes "\n") x.1)))
+    (n, rest) h in
     let b =
-        and_then_some (decimal_at a.0) (λ x. option_map (λ rest. (x.0, rest)) (after_word (codes "\n") x.1))
-        (n, rest) a.2 in
+    and_then_some (decimal_at a.0) (λ x. option_map (λ rest. (x.0, rest)) (after_word (codes "\n") x.1))
+    (n, rest) a.2 in
     let e = option_map_some (after_word (codes "\n") b.0.1) (λ rest. (b.0.0, rest)) (n, rest) b.2 in
     let number : b.0.0 ≡ n = ap (λ (p : ℕ × List ℕ). p.0) e.2 in
     let last : e.0 ≡ rest = ap (λ (p : ℕ × List ℕ). p.1) e.2 in
@@ -204,7 +204,8 @@ number_line_takes word text n rest h =
     let regrouped : word ++ (decimal n ++ (codes "\n" ++ rest)) ≡ number_line word n ++ rest = simp append_assoc in
     record {
       parts = first
-          ∙ ap (λ (t : List ℕ). word ++ t) (second.parts ∙ ap (λ (k : ℕ). decimal k ++ b.0.1) number ∙ ap (λ (t : List ℕ). decimal n ++ t) (third ∙ ap (λ (t : List ℕ). codes "\n" ++ t) last))
+          ∙ ap (λ (t : List ℕ). word ++ t)
+          (second.parts ∙ ap (λ (k : ℕ). decimal k ++ b.0.1) number ∙ ap (λ (t : List ℕ). decimal n ++ t) (third ∙ ap (λ (t : List ℕ). codes "\n" ++ t) last))
           ∙ regrouped;
       fits = omega (arith, second.fits, number);
     }

@@ -124,10 +124,10 @@ pub residues_fit_from : (ms : List ℕ) (i : ℕ) (xs : List ℕ)
 residues_fit_from ms i [] h = refl
 residues_fit_from ms i (x ∷ xs) h =
     let first : ltb x (modulus_at ms i) ≡ true =
-        lt-ltb _ _ (subst (λ (p : ℕ). x < modulus_at ms p) (omega arith) (h 0 (omega arith))) in
+    lt-ltb _ _ (subst (λ (p : ℕ). x < modulus_at ms p) (omega arith) (h 0 (omega arith))) in
     let later =
-        residues_fit_from ms (i + 1) xs
-        (λ j lt. subst (λ (p : ℕ). get_or xs j 0 < modulus_at ms p) (omega arith) (h (suc j) (omega arith))) in
+    residues_fit_from ms (i + 1) xs
+    (λ j lt. subst (λ (p : ℕ). get_or xs j 0 < modulus_at ms p) (omega arith) (h (suc j) (omega arith))) in
     rw (first, later) refl
 
 -- the first residue that is not below its modulus, counted from index i on
@@ -173,11 +173,11 @@ pub residues_fit_at : (ms : List ℕ) (i : ℕ) (xs : List ℕ) (place : ℕ) �
 residues_fit_at ms i [] place lt above first = absurd (omega arith)
 residues_fit_at ms i (x ∷ xs) zero lt above first =
     let no : ltb x (modulus_at ms i) ≡ false =
-        le-ltb _ _ (subst (λ (p : ℕ). modulus_at ms p ≤ x) (omega arith) above) in
+    le-ltb _ _ (subst (λ (p : ℕ). modulus_at ms p ≤ x) (omega arith) above) in
     rw no (ap (λ (p : ℕ). Err (ResidueRefused (shown_count p))) (omega arith))
 residues_fit_at ms i (x ∷ xs) (suc place) lt above first =
     let yes : ltb x (modulus_at ms i) ≡ true =
-        lt-ltb _ _ (subst (λ (p : ℕ). x < modulus_at ms p) (omega arith) (first 0 (omega arith))) in
+    lt-ltb _ _ (subst (λ (p : ℕ). x < modulus_at ms p) (omega arith) (first 0 (omega arith))) in
     let later = residues_fit_at ms (i + 1) xs place (omega arith) (subst (λ (p : ℕ). modulus_at ms p ≤ get_or xs place 0) (omega arith) above)
     (λ j below. subst (λ (p : ℕ). get_or xs j 0 < modulus_at ms p) (omega arith) (first (suc j) (omega arith))) in
     rw (yes, later) (ap (λ (p : ℕ). Err (ResidueRefused (shown_count p))) (omega arith))

@@ -70,9 +70,9 @@ refusal_is_read text NotCheckpoint r = early text NotCheckpoint r.0 (written_wit
 refusal_is_read text (Damaged kept computed) r =
     let p = r.1 in
     let is : ◌≡◌ {A = CheckpointError} (Damaged p.kept computed) (Damaged kept computed) =
-        ap (λ (k : List ℕ). Damaged k computed) (sym r.3) in
+    ap (λ (k : List ℕ). Damaged k computed) (sym r.3) in
     let digest : ◌≡◌ {A = CheckpointError} (Damaged p.kept (sha256 p.body)) (Damaged p.kept computed) =
-        ap (λ (k : List ℕ). Damaged p.kept k) (sym r.4) in
+    ap (λ (k : List ℕ). Damaged p.kept k) (sym r.4) in
     let other : p.kept ≢ sha256 p.body = λ same. r.5 (r.3 ∙ same ∙ sym r.4) in
     early text (Damaged kept computed) r.0
     (written_damaged text p r.2 other ∙ ap (λ (e : CheckpointError). Err e) (digest ∙ is))

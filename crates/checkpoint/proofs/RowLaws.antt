@@ -52,7 +52,7 @@ module _ {X : Type 0} (more : List ℕ → Bool) (item : Reader X) (spell : X �
       elim (chosen (more text) (item text >>= (λ x. many more item n x.1 >>= (λ xs. Ok (x.0 ∷ xs.0, xs.1)))) (Ok ([], text)) (Ok (xs, rest)) h) [
         | inl goes ↦
             let a =
-                bind_ok (item text) (λ x. many more item n x.1 >>= (λ xs. Ok (x.0 ∷ xs.0, xs.1))) (xs, rest) goes.1 in
+            bind_ok (item text) (λ x. many more item n x.1 >>= (λ xs. Ok (x.0 ∷ xs.0, xs.1))) (xs, rest) goes.1 in
             let b = bind_ok (many more item n a.0.1) (λ ys. Ok (a.0.0 ∷ ys.0, ys.1)) (xs, rest) a.2 in
             let first = one text a.0.0 a.0.1 a.1 in
             let others = many_take one n a.0.1 b.0.0 b.0.1 b.1 in
@@ -79,7 +79,7 @@ module _ {X : Type 0} (more : List ℕ → Bool) (item : Reader X) (spell : X �
   many_again Follows again goes follows zero (x ∷ xs) rest le fit ends last = absurd (omega arith)
   many_again Follows again goes follows (suc n) (x ∷ xs) rest le fit ends last =
       let regrouped : flat_map spell (x ∷ xs) ++ rest ≡ spell x ++ (flat_map spell xs ++ rest) =
-          append_assoc (spell x) (flat_map spell xs) rest in
+      append_assoc (spell x) (flat_map spell xs) rest in
       let later = many_again Follows again goes follows n xs rest (omega arith) fit.1 ends last in
       let here = again x (flat_map spell xs ++ rest) fit.0 (follows_all xs) in
       ap (many more item (suc n)) regrouped ∙ rw (goes x (flat_map spell xs ++ rest), here, later) refl
@@ -128,7 +128,7 @@ residue_takes : (text : List ℕ) (r : ℕ) (rest : List ℕ) → residue_at tex
 unfolding residue_at
 residue_takes text r rest h =
     let a =
-        bind_ok (ok_or (after_word (codes " ") text) BadBody) (λ rest. ok_or (decimal_at rest) BadBody) (r, rest) h in
+    bind_ok (ok_or (after_word (codes " ") text) BadBody) (λ rest. ok_or (decimal_at rest) BadBody) (r, rest) h in
     let first = after_word_takes (codes " ") text a.0 (ok_or_ok _ _ _ a.1) in
     let second = decimal_takes a.0 r rest (ok_or_ok _ _ _ a.2) in
     record {
@@ -141,7 +141,7 @@ residue_again : (r : ℕ) (rest : List ℕ) → IsNumber r → NoDigit rest → 
 unfolding residue_at
 residue_again r rest small ends =
     let regrouped : residue_text r ++ rest ≡ codes " " ++ (decimal r ++ rest) =
-        append_assoc (codes " ") (decimal r) rest in
+    append_assoc (codes " ") (decimal r) rest in
     ap residue_at regrouped ∙ rw (decimal_again r rest small ends) refl
 
 residue_err : (text : List ℕ) (e : CheckpointError) → residue_at text ≡ Err e → e ≡ BadBody
@@ -163,10 +163,10 @@ residues_again : (row rest : List ℕ) → AllByRecursion IsNumber row
 unfolding residues_at
 residues_again row rest fit =
     let long =
-        spelled_long starts_with_space residue_at residue_text IsNumber
-        (λ r. omega (arith, length-append (codes " ") (decimal r))) row in
+    spelled_long starts_with_space residue_at residue_text IsNumber
+    (λ r. omega (arith, length-append (codes " ") (decimal r))) row in
     let le : length row ≤ length (flat_map residue_text row ++ (codes "\n" ++ rest)) =
-        omega (arith, length-append (flat_map residue_text row) (codes "\n" ++ rest), long) in
+    omega (arith, length-append (flat_map residue_text row) (codes "\n" ++ rest), long) in
     many_again starts_with_space residue_at residue_text IsNumber NoDigit residue_again (λ r rest. refl)
     (λ r rest. refl) (length (flat_map residue_text row ++ (codes "\n" ++ rest))) row
     (codes "\n" ++ rest) le fit refl refl
@@ -185,10 +185,10 @@ row_takes : (text : List ℕ) (row rest : List ℕ) → row_at text ≡ Ok (row,
 unfolding row_at
 row_takes text row rest h =
     let last : List ℕ × List ℕ → List ℕ → Result (List ℕ × List ℕ) CheckpointError =
-        λ x rest. cond (eqb (length x.0) 0) (Err BadBody) (Ok (x.0, rest)) in
+    λ x rest. cond (eqb (length x.0) 0) (Err BadBody) (Ok (x.0, rest)) in
     let a =
-        bind_ok (ok_or (after_word (codes "residues") text) BadBody)
-        (λ rest. residues_at rest >>= (λ x. ok_or (after_word (codes "\n") x.1) BadBody >>= last x)) (row, rest) h in
+    bind_ok (ok_or (after_word (codes "residues") text) BadBody)
+    (λ rest. residues_at rest >>= (λ x. ok_or (after_word (codes "\n") x.1) BadBody >>= last x)) (row, rest) h in
     let b = bind_ok (residues_at a.0) (λ x. ok_or (after_word (codes "\n") x.1) BadBody >>= last x) (row, rest) a.2 in
     let d = bind_ok (ok_or (after_word (codes "\n") b.0.1) BadBody) (last b.0) (row, rest) b.2 in
     let first = after_word_takes (codes "residues") text a.0 (ok_or_ok _ _ _ a.1) in
@@ -201,7 +201,8 @@ row_takes text row rest h =
           let regrouped : codes "residues" ++ (flat_map residue_text b.0.0 ++ (codes "\n" ++ d.0)) ≡ residue_line b.0.0 ++ d.0 = simp append_assoc in
           subst P (same_ok (b.0.0, d.0) (row, rest) some.1) (record {
             parts = first
-                ∙ ap (λ (t : List ℕ). codes "residues" ++ t) (second.parts ∙ ap (λ (t : List ℕ). flat_map residue_text b.0.0 ++ t) third)
+                ∙ ap (λ (t : List ℕ). codes "residues" ++ t)
+                (second.parts ∙ ap (λ (t : List ℕ). flat_map residue_text b.0.0 ++ t) third)
                 ∙ regrouped;
             fits = record { some = some_from_test _ some.0; numbers = second.fit };
           })
@@ -211,7 +212,7 @@ row_again : (row rest : List ℕ) → IsRow row → Unit {0} → row_at (residue
 unfolding row_at
 row_again row rest fits u =
     let regrouped : residue_line row ++ rest ≡ codes "residues" ++ (flat_map residue_text row ++ (codes "\n" ++ rest)) =
-        simp append_assoc in
+    simp append_assoc in
     let some : eqb (length row) 0 ≡ false = ne_eqb (length row) 0 (λ none. absurd (omega (arith, none, fits.some))) in
     ap row_at regrouped ∙ rw (residues_again row rest fits.numbers, some) refl
 
@@ -219,7 +220,7 @@ row_err : (text : List ℕ) (e : CheckpointError) → row_at text ≡ Err e → 
 unfolding row_at
 row_err text e h =
     let last : List ℕ × List ℕ → List ℕ → Result (List ℕ × List ℕ) CheckpointError =
-        λ x rest. cond (eqb (length x.0) 0) (Err BadBody) (Ok (x.0, rest)) in
+    λ x rest. cond (eqb (length x.0) 0) (Err BadBody) (Ok (x.0, rest)) in
     elim (bind_err (ok_or (after_word (codes "residues") text) BadBody) (λ rest. residues_at rest >>= (λ x. ok_or (after_word (codes "\n") x.1) BadBody >>= last x)) e h) [
       | inl first ↦ sym (ok_or_err _ _ _ first).1
       | inr a ↦

@@ -97,11 +97,11 @@ text_of_state : (text : List ℕ) (c : Contents) (p : ProblemView) → Writes te
 text_of_state text c p w lines each =
     let m = length p.moduli in
     let rows : rows_of m (length p.integrals) (concat c.rows) ≡ c.rows =
-        ap (λ (n : ℕ). rows_of m n (concat c.rows)) (sym lines) ∙ rows_of_concat m c.rows each in
+    ap (λ (n : ℕ). rows_of m n (concat c.rows)) (sym lines) ∙ rows_of_concat m c.rows each in
     let here : text ≡ text_in c.version (state_in c p) =
-        w.whole ∙ ap
-        (λ (r : List (List ℕ)). text_of (record { version = c.version; source = c.source; next = c.next; rows = r }))
-        (sym rows) in
+    w.whole ∙ ap
+    (λ (r : List (List ℕ)). text_of (record { version = c.version; source = c.source; next = c.next; rows = r }))
+    (sym rows) in
     elim w.contents.version [
       | inl one ↦ inr (sym lines ∙ w.contents.one one, here ∙ ap (λ (v : ℕ). text_in v (state_in c p)) one)
       | inr two ↦ inl (here ∙ ap (λ (v : ℕ). text_in v (state_in c p)) two)
@@ -114,8 +114,8 @@ state_ok text c s w h =
     let p = a.0 in
     let k1 = keep_ok (leb c.next (count_of p)) (NextTooLarge c.next (count_of p)) (line_rules c p) s a.2 in
     let k2 =
-        keep_ok (eqb (length c.rows) (length p.integrals))
-        (LineCount (shown_count (length c.rows)) (length p.integrals)) (count_rules c p) s k1.1 in
+    keep_ok (eqb (length c.rows) (length p.integrals))
+    (LineCount (shown_count (length c.rows)) (length p.integrals)) (count_rules c p) s k1.1 in
     let b = bind_ok (counts_fit (length p.moduli) c.rows) (λ _. last_rule c p) s k2.1 in
     let d = bind_ok (residues_fit p.moduli 0 (concat c.rows)) (λ _. Ok (state_in c p)) s b.2 in
     let made = same_ok (state_in c p) s d.2 in
@@ -147,7 +147,7 @@ state_err text c e w h =
                             let other = counts_fit_other (length p.moduli) c.rows e counts in
                             let first = other.first in
                             let shown : shown_count other.found ≡ other.found =
-                                ap shown_count (sym first.count) ∙ size.row first.place ∙ first.count in
+                            ap shown_count (sym first.count) ∙ size.row first.place ∙ first.count in
                             subst (IsRefusal text)
                             (ap (λ (n : ℕ). ResidueCount n (length p.moduli)) (sym shown) ∙ sym other.is)
                             (c, p, rows, refl, first)
@@ -156,7 +156,7 @@ state_err text c e w h =
                               | inl residues ↦
                                   let above = residues_fit_above p.moduli 0 (concat c.rows) e residues in
                                   let shown : above.place ≡ shown_count (0 + above.place) =
-                                      sym (size.place above.place above.within) ∙ ap shown_count (omega arith) in
+                                  sym (size.place above.place above.within) ∙ ap shown_count (omega arith) in
                                   let all : HasResidues p text c = record { written = rows; residues = counts_fit_each (length p.moduli) c.rows b.1 } in
                                   subst (IsRefusal text) (ap (λ (n : ℕ). ResidueRefused n) shown ∙ sym above.is) (
                                     c,
@@ -201,7 +201,7 @@ pub refused_counts : (text : List ℕ) (c : Contents) (p : ProblemView) (found :
 refused_counts text c p found rows first =
     let next = rows.written in
     let shown : shown_count found ≡ found =
-        ap shown_count (sym first.count) ∙ (sizes text c next.written.writes).row first.place ∙ first.count in
+    ap shown_count (sym first.count) ∙ (sizes text c next.written.writes).row first.place ∙ first.count in
     at_counts c p (read_of text c p next.written) (ResidueCount found (length p.moduli)) next.next rows.rows
     (counts_fit_at (length p.moduli) c.rows found first.place first.within first.count first.other first.first ∙ ap (λ (n : ℕ). Err (ResidueCount n (length p.moduli))) shown)
 
@@ -211,7 +211,7 @@ refused_residues text c p place all first =
     let rows = all.written in
     let next = rows.written in
     let shown : shown_count (0 + place) ≡ place =
-        ap shown_count (omega arith) ∙ (sizes text c next.written.writes).place place first.within in
+    ap shown_count (omega arith) ∙ (sizes text c next.written.writes).place place first.within in
     at_residues c p (read_of text c p next.written) (ResidueRefused place) next.next rows.rows
     (counts_fit_from (length p.moduli) c.rows all.residues)
     (residues_fit_at p.moduli 0 (concat c.rows) place first.within (subst (λ (n : ℕ). modulus_at p.moduli n ≤ get_or (concat c.rows) place 0) (omega arith) first.refused)

@@ -63,8 +63,8 @@ row_in (row ∷ rows) (suc i) = omega (arith, length-append row (concat rows), r
 row_long : (row : List ℕ) → length row ≤ length (residue_line row)
 row_long row =
     let long =
-        spelled_long starts_with_space residue_at residue_text IsNumber
-        (λ r. omega (arith, length-append (codes " ") (decimal r))) row in
+    spelled_long starts_with_space residue_at residue_text IsNumber
+    (λ r. omega (arith, length-append (codes " ") (decimal r))) row in
     omega (arith, long, length-append (codes "residues" ++ flat_map residue_text row) (codes "\n"), length-append (codes "residues") (flat_map residue_text row))
 
 concat_long : (rows : List (List ℕ)) → length (concat rows) ≤ length (flat_map residue_line rows)
@@ -86,8 +86,8 @@ pub sizes : (text : List ℕ) (c : Contents) → Writes text c → Sizes c
 sizes text c w =
     let f = flat_map residue_line c.rows in
     let most =
-        rows_in_text text (number_line (codes "locus-checkpoint ") c.version) (source_text c.source)
-        (number_line (codes "next ") c.next) f (seal (sha256 (body_of c))) w.whole in
+    rows_in_text text (number_line (codes "locus-checkpoint ") c.version) (source_text c.source)
+    (number_line (codes "next ") c.next) f (seal (sha256 (body_of c))) w.whole in
     record {
       rows = omega (arith, most, w.fits, rows_long c.rows);
       row = λ i. omega (arith, most, w.fits, concat_long c.rows, row_in c.rows i);
@@ -132,10 +132,10 @@ module _ (text : List ℕ) (fits : Fits text) (p : Parts) (has : HasParts text p
   unfolding sound_at
   sound_ok c h =
       let a =
-          keep_ok (bytes_eq p.kept (sha256 p.body)) (Damaged p.kept (sha256 p.body))
-          (keep (eqb p.version 1 || eqb p.version 2) (BadVersion p.version) >>= (λ _. contents_at p.version p.rest)) c h in
+      keep_ok (bytes_eq p.kept (sha256 p.body)) (Damaged p.kept (sha256 p.body))
+      (keep (eqb p.version 1 || eqb p.version 2) (BadVersion p.version) >>= (λ _. contents_at p.version p.rest)) c h in
       let b =
-          keep_ok (eqb p.version 1 || eqb p.version 2) (BadVersion p.version) (contents_at p.version p.rest) c a.1 in
+      keep_ok (eqb p.version 1 || eqb p.version 2) (BadVersion p.version) (contents_at p.version p.rest) c a.1 in
       written_whole c ((bytes_eq-Decides p.kept (sha256 p.body)).0 a.0)
       (contents_take p.version p.rest c (known_test p.version b.0) b.1)
 
@@ -147,7 +147,7 @@ module _ (text : List ℕ) (fits : Fits text) (p : Parts) (has : HasParts text p
       ∙ number_line_again (codes "locus-checkpoint ") c.version (rest_of c) (known_small c.version are.version) in
       let pair = some_pair_parts p.version c.version p.rest (rest_of c) (sym (parts_first text p has) ∙ here) in
       let read : contents_at p.version p.rest ≡ Ok c =
-          ap (λ (v : ℕ). contents_at v p.rest) pair.0 ∙ ap (contents_at c.version) pair.1 ∙ contents_again c are in
+      ap (λ (v : ℕ). contents_at v p.rest) pair.0 ∙ ap (contents_at c.version) pair.1 ∙ contents_again c are in
       let clash = sym h ∙ read in
       cc clash
 
@@ -188,8 +188,8 @@ unfolding written_at
 written_ok text c fits h =
     let a = bind_ok (ok_or (unsealed_at text) NotCheckpoint) first_step c h in
     let b =
-        bind_ok (ok_or (number_line_at (codes "locus-checkpoint ") a.0.0) NotCheckpoint)
-        (λ first. sound_at a.0.1 a.0.0 first.0 first.1) c a.2 in
+    bind_ok (ok_or (number_line_at (codes "locus-checkpoint ") a.0.0) NotCheckpoint)
+    (λ first. sound_at a.0.1 a.0.0 first.0 first.1) c a.2 in
     let p : Parts = record { kept = a.0.1; body = a.0.0; version = b.0.0; rest = b.0.1 } in
     sound_ok text fits p (parts_take text a.0.0 a.0.1 b.0.0 b.0.1 (ok_or_ok _ _ _ a.1) (ok_or_ok _ _ _ b.1)) c b.2
 

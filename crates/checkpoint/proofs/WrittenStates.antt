@@ -169,8 +169,8 @@ module _ (v : ℕ) (s : StateView) (is : IsState s) (known : IsKnownVersion v) (
       let k = seal (sha256 (body_of c)) in
       let version : v < 2 ^ 64 = known_small known in
       let rows =
-          rows_short m (rows_of m n s.residues) is.rules.moduli.most are.rows
-          (each_row_of m n s.residues is.residues.one_each) in
+      rows_short m (rows_of m n s.residues) is.rules.moduli.most are.rows
+      (each_row_of m n s.residues is.residues.one_each) in
       omega (
         arith,
         sum_of_five a t x f k,

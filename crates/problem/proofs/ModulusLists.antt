@@ -14,7 +14,8 @@ by_first [] d some = absurd (omega arith)
 by_first (m ∷ ms) d some = ap (λ ns. m ∷ ns) (sym (take_all (length (m ∷ ms) - 1) ms (omega arith)))
 
 -- the product by the first modulus
-pub product_by_first : (p m : ℕ) (ms : List ℕ) (d : ℕ) → 0 < length ms → m ≡ get_or ms 0 d → p ≡ product_of (take (length ms - 1) (drop 1 ms)) → p * m ≡ product_of ms
+pub product_by_first : (p m : ℕ) (ms : List ℕ) (d : ℕ) → 0 < length ms → m ≡ get_or ms 0 d
+    → p ≡ product_of (take (length ms - 1) (drop 1 ms)) → p * m ≡ product_of ms
 product_by_first p m ms d some is rest =
     mul_comm p m ∙ ap (λ n. n * p) is ∙ ap (λ n. get_or ms 0 d * n) rest ∙ sym (ap product_of (by_first ms d some))
 
@@ -39,16 +40,19 @@ pairs_rest : (m : ℕ) (ms : List ℕ) → ArePairwiseCoprime (m ∷ ms) → Are
 pairs_rest m ms are i j before inside = are (suc i) (suc j) (omega arith) (omega arith)
 
 -- where the first modulus is coprime to the others, it is they that are left to look at
-pub coprime_rest : (b : Bool) (m : ℕ) (ms : List ℕ) (d : ℕ) → 0 < length ms → m ≡ get_or ms 0 d → All (λ n. gcd m n ≡ 1) (take (length ms - 1) (drop 1 ms))
+pub coprime_rest : (b : Bool) (m : ℕ) (ms : List ℕ) (d : ℕ) → 0 < length ms → m ≡ get_or ms 0 d
+    → All (λ n. gcd m n ≡ 1) (take (length ms - 1) (drop 1 ms))
     → (IsTrue b ↔ ArePairwiseCoprime (take (length ms - 1) (drop 1 ms))) → IsTrue b ↔ ArePairwiseCoprime ms
 coprime_rest b m ms d some is first rest =
-    subst (λ ns. IsTrue b ↔ ArePairwiseCoprime ns) (ap (λ n. n ∷ take (length ms - 1) (drop 1 ms)) is ∙ sym (by_first ms d some))
+    subst (λ ns. IsTrue b ↔ ArePairwiseCoprime ns)
+    (ap (λ n. n ∷ take (length ms - 1) (drop 1 ms)) is ∙ sym (by_first ms d some))
     (λ t. pairs m others first (rest.0 t), λ are. rest.1 (pairs_rest m others are))
   where
     others : List ℕ
     others = take (length ms - 1) (drop 1 ms)
 
-pub coprime_first : (b : Bool) (m : ℕ) (ms : List ℕ) (d : ℕ) → 0 < length ms → m ≡ get_or ms 0 d → (IsTrue b ↔ All (λ n. gcd m n ≡ 1) (take (length ms - 1) (drop 1 ms))) → b ≡ false
+pub coprime_first : (b : Bool) (m : ℕ) (ms : List ℕ) (d : ℕ) → 0 < length ms → m ≡ get_or ms 0 d
+    → (IsTrue b ↔ All (λ n. gcd m n ≡ 1) (take (length ms - 1) (drop 1 ms))) → b ≡ false
     → IsTrue b ↔ ArePairwiseCoprime ms
 coprime_first b m ms d some is first fails =
     (λ t. cc, λ are. first.1 (pairs_first m others (subst ArePairwiseCoprime (by_first ms d some ∙ ap (λ n. n ∷ others) (sym is)) are)))

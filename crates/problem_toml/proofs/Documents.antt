@@ -11,7 +11,8 @@ pub document_ok : (text : List ℕ) (t : Members) → IsUtf8 text → parse_docu
 unfolding document_of
 document_ok text t utf8 read = rw (is_utf8-from_IsUtf8 text utf8, read)
 
-document_tested : (text : List ℕ) (b : Bool) → is_utf8 text ≡ b → (IsUtf8 text → parse_document text ≡ None) → document_of text ≡ Err NotToml
+document_tested : (text : List ℕ) (b : Bool) → is_utf8 text ≡ b → (IsUtf8 text → parse_document text ≡ None)
+    → document_of text ≡ Err NotToml
 unfolding document_of
 document_tested text true e none = rw (e, none (IsUtf8-from_is_utf8 text e))
 document_tested text false e none = rw e

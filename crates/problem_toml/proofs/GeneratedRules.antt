@@ -34,7 +34,8 @@ three_or_four (suc (suc (suc (suc (suc d))))) h l = absurd (omega arith)
 
 fits : (d : ℕ) → 3 ≤ d → d ≤ 4 → within_limits (shape_of 4 d 0) ≡ true
 fits d h l =
-    ⊎_elim (λ e. subst (λ z. within_limits (shape_of 4 z 0) ≡ true) (sym e) refl) (λ e. subst (λ z. within_limits (shape_of 4 z 0) ≡ true) (sym e) refl) (three_or_four d h l)
+    ⊎_elim (λ e. subst (λ z. within_limits (shape_of 4 z 0) ≡ true) (sym e) refl)
+    (λ e. subst (λ z. within_limits (shape_of 4 z 0) ≡ true) (sym e) refl) (three_or_four d h l)
 
 count_three : tree_count (shape_of 4 3 0) ≡ 5620
 unfolding tree_count
@@ -46,12 +47,16 @@ count_four = refl
 
 few : (d : ℕ) → 3 ≤ d → d ≤ 4 → tree_count (shape_of 4 d 0) ≤ 2 ^ 40
 few d h l =
-    ⊎_elim (λ e. subst (λ z. tree_count (shape_of 4 z 0) ≤ 2 ^ 40) (sym e) (subst (λ z. z ≤ 2 ^ 40) (sym count_three) (lit≤ tt)))
-    (λ e. subst (λ z. tree_count (shape_of 4 z 0) ≤ 2 ^ 40) (sym e) (subst (λ z. z ≤ 2 ^ 40) (sym count_four) (lit≤ tt))) (three_or_four d h l)
+    ⊎_elim
+    (λ e. subst (λ z. tree_count (shape_of 4 z 0) ≤ 2 ^ 40) (sym e) (subst (λ z. z ≤ 2 ^ 40) (sym count_three) (lit≤ tt)))
+    (λ e. subst (λ z. tree_count (shape_of 4 z 0) ≤ 2 ^ 40) (sym e) (subst (λ z. z ≤ 2 ^ 40) (sym count_four) (lit≤ tt)))
+    (three_or_four d h l)
 
-pub no_shape_error : (e : ShapeError) (r : Result TreeShape ShapeError) (d : ℕ) → r ≡ Err e → 3 ≤ d → d ≤ 4 → ((r ≡ Err OutOfLimits) ↔ (within_limits (shape_of 4 d 0) ≡ false))
+pub no_shape_error : (e : ShapeError) (r : Result TreeShape ShapeError) (d : ℕ) → r ≡ Err e → 3 ≤ d → d ≤ 4
+    → ((r ≡ Err OutOfLimits) ↔ (within_limits (shape_of 4 d 0) ≡ false))
     → ((r ≡ Err TooManyTrees) ↔ ((within_limits (shape_of 4 d 0) ≡ true) × (2 ^ 40 < tree_count (shape_of 4 d 0)))) → ⊥
-no_shape_error OutOfLimits r d is h l out many = let f = out.0 is in let t = fits d h l in let c : true ≡ false = sym t ∙ f in cc
+no_shape_error OutOfLimits r d is h l out many =
+    let f = out.0 is in let t = fits d h l in let c : true ≡ false = sym t ∙ f in cc
 no_shape_error TooManyTrees r d is h l out many = let m = (many.0 is).1 in let f = few d h l in omega arith
 
 -- ---- the weights
@@ -76,15 +81,19 @@ module _ (g : ℕ) (least : 1 ≤ g) (most : g < 100) where
         (All-cons IsWeight (pos (g ^ 4)) [] (let s = fourth in omega arith) (All-nil IsWeight)))));
   }
 
-  pub no_setup_error : (e : SetupError) (r : Result (List ℤ) SetupError) (ws : List ℤ) → ws ≡ weights_of_base g → r ≡ Err e
+  pub no_setup_error : (e : SetupError) (r : Result (List ℤ) SetupError) (ws : List ℤ) → ws ≡ weights_of_base g
+      → r ≡ Err e
       → ((r ≡ Err BadCount) ↔ ((length ws < 2) ⊎ (13 < length ws)))
-      → ((place : ℕ) → (r ≡ Err (BadWeight place)) ↔ ((2 ≤ length ws) × (length ws ≤ 13) × (position is_beyond_limit ws ≡ Some place))) → ⊥
+      → ((place : ℕ) → (r ≡ Err (BadWeight place)) ↔ ((2 ≤ length ws) × (length ws ≤ 13) × (position is_beyond_limit ws ≡ Some place)))
+      → ⊥
   no_setup_error BadCount r ws w is count weight =
       let long : length ws ≡ 5 = ap length w in
       ⊎_elim (λ h. absurd (omega arith)) (λ h. absurd (omega arith)) (count.0 is)
   no_setup_error (BadWeight place) r ws w is count weight =
       let there = ((weight place).0 is).2 in
-      let none = ap (position is_beyond_limit) w ∙ no_place (weights_of_base g) (none_beyond (weights_of_base g) are_weights.within) in
+      let none =
+      ap (position is_beyond_limit) w ∙ no_place (weights_of_base g)
+      (none_beyond (weights_of_base g) are_weights.within) in
       cc
 
 -- a weight as 64 bits keep it
@@ -92,7 +101,8 @@ stored : (n k : ℕ) → n ≡ k → k < 9223372036854775808 → to_z w64 (of_z 
 stored n k e h = ap (λ z. to_z w64 (of_z w64 (pos z))) e ∙ to_z-of_z w64 (pos k) (fits_signed_from_abs w64 (pos k) h)
 
 pub weights_are : (g a b c : ℕ) → 1 ≤ g → g < 100 → a ≡ g ^ 2 → b ≡ g ^ 3 → c ≡ g ^ 4
-    → pos 1 ∷ to_z w64 (of_z w64 (pos g)) ∷ to_z w64 (of_z w64 (pos a)) ∷ to_z w64 (of_z w64 (pos b)) ∷ to_z w64 (of_z w64 (pos c)) ∷ [] ≡ weights_of_base g
+    → pos 1 ∷ to_z w64 (of_z w64 (pos g)) ∷ to_z w64 (of_z w64 (pos a)) ∷ to_z w64 (of_z w64 (pos b)) ∷ to_z w64 (of_z w64 (pos c)) ∷ []
+    ≡ weights_of_base g
 weights_are g a b c least most p q r =
     rw (
       stored g g refl (omega arith),
@@ -122,14 +132,19 @@ pairwise i (suc (suc j)) h l = absurd (omega arith)
 is_power : IsPower 0 (record { class = Hypersurface 5; power = 1 })
 is_power = record { class = record { parameter = (lit≤ tt, lit≤ tt); mark = tt }; least = lit≤ tt; most = lit≤ tt }
 
-is_term : (d : ℕ) → IsTermOf (shape_of 4 d 0) (record { coefficient = pos 1; classes = record { class = Hypersurface 5; power = 1 } ∷ [] })
+is_term : (d : ℕ)
+    → IsTermOf (shape_of 4 d 0) (record { coefficient = pos 1; classes = record { class = Hypersurface 5; power = 1 } ∷ [] })
 is_term d = record {
   limits = record { coefficient = lit≤ tt; count = lit≤ tt; classes = All-cons (IsPower 0) (record { class = Hypersurface 5; power = 1 }) [] is_power (All-nil (IsPower 0)) };
   dimension = (omega arith);
 }
 
 is_integral : (d : ℕ) → All (IsIntegralOf (shape_of 4 d 0)) quintic
-is_integral d = All-cons (IsIntegralOf (shape_of 4 d 0)) (record { coefficient = pos 1; classes = record { class = Hypersurface 5; power = 1 } ∷ [] } ∷ []) [] (record { some = lit≤ tt; each = All-cons (IsTermOf (shape_of 4 d 0)) (record { coefficient = pos 1; classes = record { class = Hypersurface 5; power = 1 } ∷ [] }) [] (is_term d) (All-nil (IsTermOf (shape_of 4 d 0))) }) (All-nil (IsIntegralOf (shape_of 4 d 0)))
+is_integral d =
+    All-cons (IsIntegralOf (shape_of 4 d 0))
+    (record { coefficient = pos 1; classes = record { class = Hypersurface 5; power = 1 } ∷ [] } ∷ []) []
+    (record { some = lit≤ tt; each = All-cons (IsTermOf (shape_of 4 d 0)) (record { coefficient = pos 1; classes = record { class = Hypersurface 5; power = 1 } ∷ [] }) [] (is_term d) (All-nil (IsTermOf (shape_of 4 d 0))) })
+    (All-nil (IsIntegralOf (shape_of 4 d 0)))
 
 keeps : (number : ℕ) → KeepsRules (generated_problem number)
 unfolding generated_problem
@@ -144,7 +159,8 @@ keeps number =
       moduli = record {
         least = lit≤ tt;
         most = lit≤ tt;
-        each = All-cons IsModulus 1000000007 (1000000009 ∷ []) first_modulus (All-cons IsModulus 1000000009 [] second_modulus (All-nil IsModulus));
+        each = All-cons IsModulus 1000000007 (1000000009 ∷ []) first_modulus
+            (All-cons IsModulus 1000000009 [] second_modulus (All-nil IsModulus));
         coprime = pairwise;
         product = lit≤ tt;
       };
@@ -158,16 +174,20 @@ keeps number =
 abbrev parts : TreeShape → List ℤ → List ℕ → List (List Term) → ProblemView
 parts s ws ms its = record { shape = s; weights = ws; moduli = ms; top_bound = 20000000000000; bottom_bound = 1000; integrals = its }
 
-pub is_generated : (number : ℕ) (s : TreeShape) (ws : List ℤ) (ms : List ℕ) (its : List (List Term)) → s ≡ shape_of 4 (3 + number % 2) 0 → ws ≡ weights_of_base (10 + number % 90)
+pub is_generated : (number : ℕ) (s : TreeShape) (ws : List ℤ) (ms : List ℕ) (its : List (List Term))
+    → s ≡ shape_of 4 (3 + number % 2) 0 → ws ≡ weights_of_base (10 + number % 90)
     → ms ≡ 1000000007 ∷ 1000000009 ∷ [] → its ≡ quintic
-    → record { shape = s; weights = ws; moduli = ms; top_bound = 20000000000000; bottom_bound = 1000; integrals = its } ≡ generated_problem number
+    → record { shape = s; weights = ws; moduli = ms; top_bound = 20000000000000; bottom_bound = 1000; integrals = its }
+    ≡ generated_problem number
 unfolding generated_problem
 is_generated number s ws ms its p q r t =
     ap (λ z. parts z ws ms its) p ∙ ap (λ z. parts (shape_of 4 (3 + number % 2) 0) z ms its) q
     ∙ ap (λ z. parts (shape_of 4 (3 + number % 2) 0) (weights_of_base (10 + number % 90)) z its) r
     ∙ ap (parts (shape_of 4 (3 + number % 2) 0) (weights_of_base (10 + number % 90)) (1000000007 ∷ 1000000009 ∷ [])) t
 
-pub generated_keeps : (number : ℕ) (s : TreeShape) (ws : List ℤ) (ms : List ℕ) (its : List (List Term)) → s ≡ shape_of 4 (3 + number % 2) 0 → ws ≡ weights_of_base (10 + number % 90)
+pub generated_keeps : (number : ℕ) (s : TreeShape) (ws : List ℤ) (ms : List ℕ) (its : List (List Term))
+    → s ≡ shape_of 4 (3 + number % 2) 0 → ws ≡ weights_of_base (10 + number % 90)
     → ms ≡ 1000000007 ∷ 1000000009 ∷ [] → its ≡ quintic
     → KeepsRules (record { shape = s; weights = ws; moduli = ms; top_bound = 20000000000000; bottom_bound = 1000; integrals = its })
-generated_keeps number s ws ms its p q r t = subst KeepsRules (sym (is_generated number s ws ms its p q r t)) (keeps number)
+generated_keeps number s ws ms its p q r t =
+    subst KeepsRules (sym (is_generated number s ws ms its p q r t)) (keeps number)

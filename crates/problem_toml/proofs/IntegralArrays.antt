@@ -28,8 +28,10 @@ pub record AreIntegralsUpTo (marks : ℕ) (vs : List Value) (i before : ℕ) (it
   pub most : before ≤ 32
 
 module _ (marks : ℕ) where
-  pub integrals_next : (vs : List Value) (i n before after : ℕ) (its : List (List Term)) (ts : List Term) (v : Value) (doc : Members) → i < length vs → Some doc ≡ as_table (view (get_or vs i v)) → n ≡ length its
-      → integral_of marks n before doc ≡ Ok ts → All (IsTerm marks) ts → 1 ≤ length ts → before + length ts ≤ 32 → after ≡ before + length ts
+  pub integrals_next : (vs : List Value) (i n before after : ℕ) (its : List (List Term)) (ts : List Term) (v : Value) (doc : Members)
+      → i < length vs → Some doc ≡ as_table (view (get_or vs i v)) → n ≡ length its
+      → integral_of marks n before doc ≡ Ok ts → All (IsTerm marks) ts → 1 ≤ length ts → before + length ts ≤ 32
+      → after ≡ before + length ts
       → AreIntegralsUpTo marks vs i before its → AreIntegralsUpTo marks vs (i + 1) after (its ++ ts ∷ [])
   integrals_next vs i n before after its ts v doc inside is number read limits some most next so_far = record {
     read = ap (λ k. with_front (its ++ ts ∷ []) (integrals_from marks k after rest)) one_more ∙ ap (λ b. with_front (its ++ ts ∷ []) (integrals_from marks (length its + 1) b rest)) next
@@ -53,15 +55,23 @@ module _ (marks : ℕ) where
       one_more = length-append its (ts ∷ [])
 
       step : integrals_from marks (length its) before (doc ∷ rest) ≡ (integrals_from marks (length its + 1) (before + length ts) rest >>= (λ us. Ok (ts ∷ us)))
-      step = ap (λ r. r >>= (λ u. integrals_from marks (length its + 1) (before + length u) rest >>= (λ us. Ok (u ∷ us)))) (ap (λ k. integral_of marks k before doc) (sym number) ∙ read)
+      step =
+          ap (λ r. r >>= (λ u. integrals_from marks (length its + 1) (before + length u) rest >>= (λ us. Ok (u ∷ us))))
+          (ap (λ k. integral_of marks k before doc) (sym number) ∙ read)
 
-  pub integrals_fail : (vs : List Value) (i n before : ℕ) (its : List (List Term)) (e : ProblemError) (v : Value) (doc : Members) → i < length vs → Some doc ≡ as_table (view (get_or vs i v)) → n ≡ length its
-      → integral_of marks n before doc ≡ Err e → AreIntegralsUpTo marks vs i before its → integrals_from marks 0 0 (tables_among (items_view vs)) ≡ Err e
+  pub integrals_fail : (vs : List Value) (i n before : ℕ) (its : List (List Term)) (e : ProblemError) (v : Value) (doc : Members)
+      → i < length vs → Some doc ≡ as_table (view (get_or vs i v)) → n ≡ length its
+      → integral_of marks n before doc ≡ Err e → AreIntegralsUpTo marks vs i before its
+      → integrals_from marks 0 0 (tables_among (items_view vs)) ≡ Err e
   integrals_fail vs i n before its e v doc inside is number read so_far =
-      sym so_far.read ∙ ap (λ docs. with_front its (integrals_from marks (length its) before docs)) (tables_here vs i v doc inside is)
-      ∙ ap (λ r. with_front its (r >>= (λ u. integrals_from marks (length its + 1) (before + length u) (tables_among (items_view (drop (i + 1) vs))) >>= (λ us. Ok (u ∷ us))))) (ap (λ k. integral_of marks k before doc) (sym number) ∙ read)
+      sym so_far.read
+      ∙ ap (λ docs. with_front its (integrals_from marks (length its) before docs)) (tables_here vs i v doc inside is)
+      ∙ ap
+      (λ r. with_front its (r >>= (λ u. integrals_from marks (length its + 1) (before + length u) (tables_among (items_view (drop (i + 1) vs))) >>= (λ us. Ok (u ∷ us)))))
+      (ap (λ k. integral_of marks k before doc) (sym number) ∙ read)
 
-  pub integrals_other : (vs : List Value) (i before : ℕ) (its : List (List Term)) (v : Value) → i < length vs → None ≡ as_table (view (get_or vs i v))
+  pub integrals_other : (vs : List Value) (i before : ℕ) (its : List (List Term)) (v : Value) → i < length vs
+      → None ≡ as_table (view (get_or vs i v))
       → AreIntegralsUpTo marks vs i before its → AreIntegralsUpTo marks vs (i + 1) before its
   integrals_other vs i before its v inside is so_far = record {
     read = ap (λ docs. with_front its (integrals_from marks (length its) before docs)) (sym past) ∙ so_far.read;
@@ -76,9 +86,13 @@ module _ (marks : ℕ) where
       past : tables_among (items_view (drop i vs)) ≡ tables_among (items_view (drop (i + 1) vs))
       past = tables_past vs i v inside is
 
-  pub integrals_all : (vs : List Value) (i before : ℕ) (its : List (List Term)) → length vs ≤ i → AreIntegralsUpTo marks vs i before its → integrals_from marks 0 0 (tables_among (items_view vs)) ≡ Ok its
+  pub integrals_all : (vs : List Value) (i before : ℕ) (its : List (List Term)) → length vs ≤ i
+      → AreIntegralsUpTo marks vs i before its → integrals_from marks 0 0 (tables_among (items_view vs)) ≡ Ok its
   integrals_all vs i before its over so_far =
-      sym so_far.read ∙ ap (λ docs. with_front its (integrals_from marks (length its) before docs)) (tables_end vs i over) ∙ ap Ok (append-nil its)
+      sym so_far.read
+      ∙ ap (λ docs. with_front its (integrals_from marks (length its) before docs)) (tables_end vs i over)
+      ∙ ap Ok (append-nil its)
 
-  pub integrals_counted : (vs : List Value) (i before : ℕ) (its : List (List Term)) → length vs ≤ i → AreIntegralsUpTo marks vs i before its → length its ≡ length (tables_among (items_view vs))
+  pub integrals_counted : (vs : List Value) (i before : ℕ) (its : List (List Term)) → length vs ≤ i
+      → AreIntegralsUpTo marks vs i before its → length its ≡ length (tables_among (items_view vs))
   integrals_counted vs i before its over so_far = omega (arith, ap length (tables_end vs i over), so_far.count)

@@ -27,22 +27,28 @@ pub modulus_added : (xs : List ℕ) (m : ℕ) → All IsModulus xs → IsModulus
 modulus_added xs m are is = All-push IsModulus xs m are is
 
 -- no two have a common divisor above 1 if no such pair is found
-coprime_each : (i m j : ℕ) (ns : List ℕ) → coprime_to i m j ns ≡ Ok tt → (k : ℕ) → k < length ns → gcd m (slice_index ns k) ≡ 1
+coprime_each : (i m j : ℕ) (ns : List ℕ) → coprime_to i m j ns ≡ Ok tt → (k : ℕ) → k < length ns
+    → gcd m (slice_index ns k) ≡ 1
 coprime_each i m j [] none k inside = absurd (omega arith)
-coprime_each i m j (n ∷ ns) none k inside = by_test (nat_eq (gcd m n) 1) refl none (coprime_each i m (j + 1) ns) k inside
+coprime_each i m j (n ∷ ns) none k inside =
+    by_test (nat_eq (gcd m n) 1) refl none (coprime_each i m (j + 1) ns) k inside
   where
-    by_test : (b : Bool) → nat_eq (gcd m n) 1 ≡ b → (keep b (NotCoprime i j) >>= (λ _. coprime_to i m (j + 1) ns)) ≡ Ok tt
+    by_test : (b : Bool) → nat_eq (gcd m n) 1 ≡ b
+        → (keep b (NotCoprime i j) >>= (λ _. coprime_to i m (j + 1) ns)) ≡ Ok tt
         → (coprime_to i m (j + 1) ns ≡ Ok tt → (k : ℕ) → k < length ns → gcd m (slice_index ns k) ≡ 1)
         → (k : ℕ) → k < length (n ∷ ns) → gcd m (slice_index (n ∷ ns) k) ≡ 1
     by_test true e none rest zero inside = eqb-true (gcd m n) 1 e
     by_test true e none rest (suc k) inside = rest none k (omega arith)
     by_test false e none rest k inside = cc
 
-coprime_all : (i : ℕ) (ms : List ℕ) → coprime_from i ms ≡ Ok tt → (j k : ℕ) → j < k → k < length ms → gcd (slice_index ms j) (slice_index ms k) ≡ 1
+coprime_all : (i : ℕ) (ms : List ℕ) → coprime_from i ms ≡ Ok tt → (j k : ℕ) → j < k → k < length ms
+    → gcd (slice_index ms j) (slice_index ms k) ≡ 1
 coprime_all i [] none j k before inside = absurd (omega arith)
-coprime_all i (m ∷ ms) none j k before inside = by_first (coprime_to i m (i + 1) ms) refl none (coprime_all (i + 1) ms) j k before inside
+coprime_all i (m ∷ ms) none j k before inside =
+    by_first (coprime_to i m (i + 1) ms) refl none (coprime_all (i + 1) ms) j k before inside
   where
-    by_first : (r : Result (Unit {0}) ProblemError) → coprime_to i m (i + 1) ms ≡ r → (r >>= (λ _. coprime_from (i + 1) ms)) ≡ Ok tt
+    by_first : (r : Result (Unit {0}) ProblemError) → coprime_to i m (i + 1) ms ≡ r
+        → (r >>= (λ _. coprime_from (i + 1) ms)) ≡ Ok tt
         → (coprime_from (i + 1) ms ≡ Ok tt → (j k : ℕ) → j < k → k < length ms → gcd (slice_index ms j) (slice_index ms k) ≡ 1)
         → (j k : ℕ) → j < k → k < length (m ∷ ms) → gcd (slice_index (m ∷ ms) j) (slice_index (m ∷ ms) k) ≡ 1
     by_first (Ok u) e none rest j zero before inside = absurd (omega arith)

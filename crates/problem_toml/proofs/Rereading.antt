@@ -50,13 +50,15 @@ integers_again : (place : Place) (name : Name) (zs : List ℤ) → integers_in p
 integers_again place name [] = refl
 integers_again place name (z ∷ zs) = rw (integers_again place name zs)
 
-within_again : (place : Place) (name : Name) (least most n : ℕ) → least ≤ n → n ≤ most → within place name least most (pos n) ≡ Ok n
+within_again : (place : Place) (name : Name) (least most n : ℕ) → least ≤ n → n ≤ most
+    → within place name least most (pos n) ≡ Ok n
 within_again place name least most n low high = grind (arith, common_steps)
 
 keep_again : (holds : Bool) (refusal : ProblemError) → holds ≡ true → keep holds refusal ≡ Ok tt
 keep_again holds refusal e = rw e
 
-count_again : (place : Place) (name : Name) (least most n : ℕ) → least ≤ n → n ≤ most → count_within place name least most n ≡ Ok tt
+count_again : (place : Place) (name : Name) (least most n : ℕ) → least ≤ n → n ≤ most
+    → count_within place name least most n ≡ Ok tt
 count_again place name least most n low high = rw (le-leb least n low, le-leb n most high)
 
 all_are_tables : (docs : List Members) → all_tables (table_items docs) ≡ true
@@ -68,19 +70,26 @@ tables_again [] = refl
 tables_again (doc ∷ docs) = ap (λ l. doc ∷ l) (tables_again docs)
 
 -- ---- classes, terms and integrals
-power_with : (marks i j q : ℕ) (c : Class) → IsClassFor marks c → 1 ≤ q → q ≤ 64 → power_of Two marks i j (power_table (record { class = c; power = q })) ≡ Ok (record { class = c; power = q })
+power_with : (marks i j q : ℕ) (c : Class) → IsClassFor marks c → 1 ≤ q → q ≤ 64
+    → power_of Two marks i j (power_table (record { class = c; power = q })) ≡ Ok (record { class = c; power = q })
 unfolding power_of kind_at integer_at power_table
-power_with marks i j q (class.Mark m) is low high = rw (within_again (place.Class i j) key.Mark 1 marks m is.mark.0 is.mark.1, within_again (place.Class i j) key.Power 1 64 q low high)
-power_with marks i j q (class.Hypersurface b) is low high = rw (within_again (place.Class i j) key.B 1 64 b is.parameter.0 is.parameter.1, within_again (place.Class i j) key.Power 1 64 q low high)
-power_with marks i j q (class.Incidence n) is low high = rw (within_again (place.Class i j) key.Q 2 12 n is.parameter.0 is.parameter.1, within_again (place.Class i j) key.Power 1 64 q low high)
-power_with marks i j q (class.R1 k) is low high = rw (within_again (place.Class i j) key.K 1 64 k is.parameter.0 is.parameter.1, within_again (place.Class i j) key.Power 1 64 q low high)
+power_with marks i j q (class.Mark m) is low high =
+    rw (within_again (place.Class i j) key.Mark 1 marks m is.mark.0 is.mark.1, within_again (place.Class i j) key.Power 1 64 q low high)
+power_with marks i j q (class.Hypersurface b) is low high =
+    rw (within_again (place.Class i j) key.B 1 64 b is.parameter.0 is.parameter.1, within_again (place.Class i j) key.Power 1 64 q low high)
+power_with marks i j q (class.Incidence n) is low high =
+    rw (within_again (place.Class i j) key.Q 2 12 n is.parameter.0 is.parameter.1, within_again (place.Class i j) key.Power 1 64 q low high)
+power_with marks i j q (class.R1 k) is low high =
+    rw (within_again (place.Class i j) key.K 1 64 k is.parameter.0 is.parameter.1, within_again (place.Class i j) key.Power 1 64 q low high)
 power_with marks i j q class.Contact is low high = rw (within_again (place.Class i j) key.Power 1 64 q low high)
-power_with marks i j q (class.Psi m) is low high = rw (within_again (place.Class i j) key.Mark 1 marks m is.mark.0 is.mark.1, within_again (place.Class i j) key.Power 1 64 q low high)
+power_with marks i j q (class.Psi m) is low high =
+    rw (within_again (place.Class i j) key.Mark 1 marks m is.mark.0 is.mark.1, within_again (place.Class i j) key.Power 1 64 q low high)
 
 power_again : (marks i j : ℕ) (p : Power) → IsPower marks p → power_of Two marks i j (power_table p) ≡ Ok p
 power_again marks i j p is = power_with marks i j p.power p.class is.class is.least is.most
 
-powers_again : (marks i j : ℕ) (ps : List Power) → All (IsPower marks) ps → powers_from Two marks i j (map power_table ps) ≡ Ok ps
+powers_again : (marks i j : ℕ) (ps : List Power) → All (IsPower marks) ps
+    → powers_from Two marks i j (map power_table ps) ≡ Ok ps
 powers_again marks i j [] are = refl
 powers_again marks i j (p ∷ ps) are =
     rw (power_again marks i j p (All-head (IsPower marks) p ps are), powers_again marks i (j + 1) ps (All-tail (IsPower marks) p ps are))
@@ -88,7 +97,8 @@ powers_again marks i j (p ∷ ps) are =
 term_again : (marks i : ℕ) (t : Term) → IsTerm marks t → term_of Two marks i (term_table t) ≡ Ok t
 unfolding term_of tables_at term_table
 term_again marks i t is =
-    let few : length (map power_table t.classes) ≤ 16 = subst (λ n. n ≤ 16) (sym (length-map t.classes power_table)) is.count in
+    let few : length (map power_table t.classes) ≤ 16 =
+    subst (λ n. n ≤ 16) (sym (length-map t.classes power_table)) is.count in
     rw (
       all_are_tables (map power_table t.classes),
       tables_again (map power_table t.classes),
@@ -97,12 +107,14 @@ term_again marks i t is =
       powers_again marks i 0 t.classes is.classes,
     )
 
-terms_again : (marks i : ℕ) (ts : List Term) → All (IsTerm marks) ts → terms_from Two marks i (map term_table ts) ≡ Ok ts
+terms_again : (marks i : ℕ) (ts : List Term) → All (IsTerm marks) ts
+    → terms_from Two marks i (map term_table ts) ≡ Ok ts
 terms_again marks i [] are = refl
 terms_again marks i (t ∷ ts) are =
     rw (term_again marks i t (All-head (IsTerm marks) t ts are), terms_again marks (i + 1) ts (All-tail (IsTerm marks) t ts are))
 
-integral_again : (marks i before : ℕ) (ts : List Term) → All (IsTerm marks) ts → 1 ≤ length ts → before + length ts ≤ 32 → integral_of marks i before (integral_table ts) ≡ Ok ts
+integral_again : (marks i before : ℕ) (ts : List Term) → All (IsTerm marks) ts → 1 ≤ length ts → before + length ts ≤ 32
+    → integral_of marks i before (integral_table ts) ≡ Ok ts
 unfolding integral_of tables_at integral_table
 integral_again marks i before ts are some few =
     let long = length-map ts term_table in
@@ -113,7 +125,8 @@ integral_again marks i before ts are some few =
       terms_again marks before ts are,
     )
 
-integrals_again : (marks i before : ℕ) (its : List (List Term)) → All (All (IsTerm marks)) its → All (λ ts. 1 ≤ length ts) its → before + sum_by length its ≤ 32
+integrals_again : (marks i before : ℕ) (its : List (List Term)) → All (All (IsTerm marks)) its
+    → All (λ ts. 1 ≤ length ts) its → before + sum_by length its ≤ 32
     → integrals_from marks i before (map integral_table its) ≡ Ok its
 integrals_again marks i before [] are some few = refl
 integrals_again marks i before (ts ∷ its) are some few =
@@ -138,9 +151,11 @@ modulus_again i m is =
 
 moduli_again : (i : ℕ) (ms : List ℕ) → All IsModulus ms → moduli_from i (map pos ms) ≡ Ok ms
 moduli_again i [] are = refl
-moduli_again i (m ∷ ms) are = rw (modulus_again i m (All-head IsModulus m ms are), moduli_again (i + 1) ms (All-tail IsModulus m ms are))
+moduli_again i (m ∷ ms) are =
+    rw (modulus_again i m (All-head IsModulus m ms are), moduli_again (i + 1) ms (All-tail IsModulus m ms are))
 
-coprime_to_again : (i m j : ℕ) (ns : List ℕ) → ((k : ℕ) → k < length ns → gcd m (slice_index ns k) ≡ 1) → coprime_to i m j ns ≡ Ok tt
+coprime_to_again : (i m j : ℕ) (ns : List ℕ) → ((k : ℕ) → k < length ns → gcd m (slice_index ns k) ≡ 1)
+    → coprime_to i m j ns ≡ Ok tt
 coprime_to_again i m j [] h = refl
 coprime_to_again i m j (n ∷ ns) h =
     rw (h 0 (omega arith), coprime_to_again i m (j + 1) ns (λ k l. h (suc k) (omega arith)))
@@ -150,9 +165,11 @@ coprime_again i [] h = refl
 coprime_again i (m ∷ ms) h =
     rw (coprime_to_again i m (i + 1) ms (λ k l. h 0 (suc k) (omega arith) (omega arith)), coprime_again (i + 1) ms (λ j k l n. h (suc j) (suc k) (omega arith) (omega arith)))
 
-bounds_again : (ms : List ℕ) (top bottom : ℕ) → product_of ms < 2 ^ 126 → 2 * top * bottom < product_of ms → bounds_fit ms top bottom ≡ Ok tt
+bounds_again : (ms : List ℕ) (top bottom : ℕ) → product_of ms < 2 ^ 126 → 2 * top * bottom < product_of ms
+    → bounds_fit ms top bottom ≡ Ok tt
 unfolding bounds_fit
-bounds_again ms top bottom product below = rw (lt-ltb (product_of ms) (2 ^ 126) product, lt-ltb (2 * top * bottom) (product_of ms) below)
+bounds_again ms top bottom product below =
+    rw (lt-ltb (product_of ms) (2 ^ 126) product, lt-ltb (2 * top * bottom) (product_of ms) below)
 
 pub none_beyond : (ws : List ℤ) → All IsWeight ws → list_any is_beyond_limit ws ≡ false
 none_beyond [] are = refl
@@ -168,7 +185,8 @@ degrees_again s i (t ∷ ts) are =
     let is = All-head (IsTermOf s) t ts are in
     rw (eq-eqb (powers_degree s.degree t.classes) (dimension_of s) is.dimension, degrees_again s (i + 1) ts (All-tail (IsTermOf s) t ts are))
 
-all_degrees_again : (s : TreeShape) (i : ℕ) (its : List (List Term)) → All (IsIntegralOf s) its → all_degrees_fit s i its ≡ Ok tt
+all_degrees_again : (s : TreeShape) (i : ℕ) (its : List (List Term)) → All (IsIntegralOf s) its
+    → all_degrees_fit s i its ≡ Ok tt
 all_degrees_again s i [] are = refl
 all_degrees_again s i (ts ∷ its) are =
     let is = All-head (IsIntegralOf s) ts its are in
@@ -203,11 +221,14 @@ known_again p = refl
 
 written_again : (p : ProblemView) → written_of (table_of p) ≡ Ok (written_as p)
 unfolding written_of marks_at integer_at integers_at table_of
-written_again p = rw (integers_again place.Top key.Weights p.weights, integers_again place.Top key.Moduli (map pos p.moduli))
+written_again p =
+    rw (integers_again place.Top key.Weights p.weights, integers_again place.Top key.Moduli (map pos p.moduli))
 
-integral_tables_again : (p : ProblemView) → tables_at place.Top (list_key Two) (table_of p) ≡ Ok (map integral_table p.integrals)
+integral_tables_again : (p : ProblemView)
+    → tables_at place.Top (list_key Two) (table_of p) ≡ Ok (map integral_table p.integrals)
 unfolding tables_at table_of
-integral_tables_again p = rw (all_are_tables (map integral_table p.integrals), tables_again (map integral_table p.integrals))
+integral_tables_again p =
+    rw (all_are_tables (map integral_table p.integrals), tables_again (map integral_table p.integrals))
 
 record Limits (s : TreeShape) : Type 0 where
   least_rank : 1 ≤ s.rank
@@ -240,7 +261,8 @@ both_bounds_again p is =
     let most_bottom = is.bounds.most_bottom in
     rw (within_again place.Top key.NumeratorBound 1 (2 ^ 62 - 1) p.top_bound is.bounds.least_top (omega arith), within_again place.Top key.DenominatorBound 1 (2 ^ 62 - 1) p.bottom_bound is.bounds.least_bottom (omega arith))
 
-header_again : (p : ProblemView) (n : ℕ) → KeepsRules p → 1 ≤ n → n ≤ 8 → header_of Two (written_as p) n ≡ Ok (header_as p)
+header_again : (p : ProblemView) (n : ℕ) → KeepsRules p → 1 ≤ n → n ≤ 8
+    → header_of Two (written_as p) n ≡ Ok (header_as p)
 unfolding header_of
 header_again p n is some few =
     let l = limits p.shape is.shape in
@@ -262,15 +284,19 @@ unfolding moduli_of
 all_moduli_again p is =
     rw (moduli_again 0 p.moduli is.moduli.each, coprime_again 0 p.moduli is.moduli.coprime, bounds_again p.moduli p.top_bound p.bottom_bound is.moduli.product is.bounds.below)
 
-all_integrals_again : (p : ProblemView) → KeepsRules p → integrals_of Two p.shape.marks (map integral_table p.integrals) ≡ Ok p.integrals
+all_integrals_again : (p : ProblemView) → KeepsRules p
+    → integrals_of Two p.shape.marks (map integral_table p.integrals) ≡ Ok p.integrals
 all_integrals_again p is =
-    integrals_again p.shape.marks 0 0 p.integrals (λ i d inside j e within. ((is.integrals i d inside).each j e within).limits) (λ i d inside. (is.integrals i d inside).some) (let f = is.few_terms in omega arith)
+    integrals_again p.shape.marks 0 0 p.integrals
+    (λ i d inside j e within. ((is.integrals i d inside).each j e within).limits)
+    (λ i d inside. (is.integrals i d inside).some) (let f = is.few_terms in omega arith)
 
 shape_again : (s : TreeShape) → tree_count s ≤ 2 ^ 40 → shape_fits s ≡ Ok s
 unfolding shape_fits
 shape_again s few = rw (le-leb (tree_count s) (2 ^ 40) few)
 
-with_again : (p : ProblemView) → KeepsRules p → problem_with Two (header_as p) (written_as p) (map integral_table p.integrals) ≡ Ok p
+with_again : (p : ProblemView) → KeepsRules p
+    → problem_with Two (header_as p) (written_as p) (map integral_table p.integrals) ≡ Ok p
 unfolding problem_with
 with_again p is =
     rw (weights_again p is, all_moduli_again p is, all_integrals_again p is, all_degrees_again p.shape 0 p.integrals is.integrals, shape_again p.shape is.few_trees)
@@ -291,7 +317,8 @@ problem_again p is =
       with_again p is,
     )
 
-pub printed_reads : (p : ProblemView) (text : List ℕ) → KeepsRules p → IsUtf8 text → parse_document text ≡ Some (table_of p) → reading_of_any_length text ≡ Ok p
+pub printed_reads : (p : ProblemView) (text : List ℕ) → KeepsRules p → IsUtf8 text
+    → parse_document text ≡ Some (table_of p) → reading_of_any_length text ≡ Ok p
 unfolding reading_of_any_length
 printed_reads p text is utf8 parsed = rw (document_ok text (table_of p) utf8 parsed) (problem_again p is)
 
@@ -305,12 +332,15 @@ max_within a b n h k = omega arith
 no_depth : (n : ℕ) → IsShallow n no_members
 no_depth n = record { most = omega arith }
 
-shallow_insert : {ms : Members} (n : ℕ) (k : List ℕ) (d : Data) → depth d ≤ n → IsShallow n ms → IsShallow n (insert_member k d ms)
+shallow_insert : {ms : Members} (n : ℕ) (k : List ℕ) (d : Data) → depth d ≤ n → IsShallow n ms
+    → IsShallow n (insert_member k d ms)
 shallow_insert {ms} n k d h s = record { most = inserted ms s.most }
   where
-    chosen : (o : Ordering) (l : List ℕ) (e : Data) (ms rest : Members) → depth e ≤ n → members_depth ms ≤ n → members_depth rest ≤ n
+    chosen : (o : Ordering) (l : List ℕ) (e : Data) (ms rest : Members) → depth e ≤ n → members_depth ms ≤ n
+        → members_depth rest ≤ n
         → members_depth (match_ordering o (member k d (member l e ms)) (member l d ms) (member l e rest)) ≤ n
-    chosen Less l e ms rest a b c = max_within (depth d) (max (depth e) (members_depth ms)) n h (max_within (depth e) (members_depth ms) n a b)
+    chosen Less l e ms rest a b c =
+        max_within (depth d) (max (depth e) (members_depth ms)) n h (max_within (depth e) (members_depth ms) n a b)
     chosen Equal l e ms rest a b c = max_within (depth d) (members_depth ms) n h b
     chosen Greater l e ms rest a b c = max_within (depth e) (members_depth rest) n a c
 
@@ -325,11 +355,13 @@ flat : (zs : List ℤ) → items_depth (integer_items zs) ≡ 0
 flat [] = refl
 flat (z ∷ zs) = rw (flat zs)
 
-tables_depth : {X : Type 0} (f : X → Members) (n : ℕ) (xs : List X) → ((x : X) → IsShallow n (f x)) → items_depth (table_items (map f xs)) ≤ n + 1
+tables_depth : {X : Type 0} (f : X → Members) (n : ℕ) (xs : List X) → ((x : X) → IsShallow n (f x))
+    → items_depth (table_items (map f xs)) ≤ n + 1
 tables_depth f n [] h = omega arith
 tables_depth f n (x ∷ xs) h =
     let own = (h x).most in
-    max_within (suc (members_depth (f x))) (items_depth (table_items (map f xs))) (n + 1) (omega arith) (tables_depth f n xs h)
+    max_within (suc (members_depth (f x))) (items_depth (table_items (map f xs))) (n + 1) (omega arith)
+    (tables_depth f n xs h)
 
 with_shallow : {ms : Members} (o : Option Name) (z : ℕ) → IsShallow 0 ms → IsShallow 0 (with_parameter o z ms)
 with_shallow None z s = s
@@ -345,7 +377,8 @@ term_shallow : (t : Term) → IsShallow 2 (term_table t)
 unfolding term_table
 term_shallow t =
     let d = tables_depth power_table 0 t.classes power_shallow in
-    shallow_insert 2 (key_of key.Classes) (array (table_items (map power_table t.classes))) (omega arith) (shallow_insert 2 (key_of key.Coefficient) (integer t.coefficient) (omega arith) (no_depth 2))
+    shallow_insert 2 (key_of key.Classes) (array (table_items (map power_table t.classes))) (omega arith)
+    (shallow_insert 2 (key_of key.Coefficient) (integer t.coefficient) (omega arith) (no_depth 2))
 
 integral_shallow : (ts : List Term) → IsShallow 4 (integral_table ts)
 unfolding integral_table

@@ -36,7 +36,8 @@ moduli_of header written = do
 abbrev pub degrees_fit : TreeShape → ℕ → List Term → Result (Unit {0}) ProblemError
 degrees_fit s i [] = Ok tt
 degrees_fit s i (t ∷ ts) = do
-  _ ← keep (nat_eq (powers_degree s.degree t.classes) (dimension_of s)) (WrongDegree i (powers_degree s.degree t.classes) (dimension_of s))
+  _ ← keep (nat_eq (powers_degree s.degree t.classes) (dimension_of s))
+  (WrongDegree i (powers_degree s.degree t.classes) (dimension_of s))
   degrees_fit s (i + 1) ts
 
 -- the same of all integrals in their order

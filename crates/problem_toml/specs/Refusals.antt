@@ -65,5 +65,6 @@ refusal_of (NotCoprime first second) = codes "10 NotCoprime " ++ decimal first +
 refusal_of ProductTooLarge = codes "11 ProductTooLarge"
 refusal_of BoundsTooWide = codes "12 BoundsTooWide"
 refusal_of (UnknownKind term class) = codes "13 UnknownKind " ++ decimal term ++ codes " " ++ decimal class
-refusal_of (WrongDegree term degree dimension) = codes "14 WrongDegree " ++ decimal term ++ codes " " ++ decimal degree ++ codes " " ++ decimal dimension
+refusal_of (WrongDegree term degree dimension) =
+    codes "14 WrongDegree " ++ decimal term ++ codes " " ++ decimal degree ++ codes " " ++ decimal dimension
 refusal_of TooManyTrees = codes "15 TooManyTrees"

@@ -98,7 +98,8 @@ tables_at place name doc = do
 
 -- a number from `least` to `most`
 abbrev pub within : Place → Name → ℕ → ℕ → ℤ → Result ℕ ProblemError
-within place name least most z = if int_lt z (pos least) || int_lt (pos most) z then Err (OutOfLimits place name) else Ok (unsigned_abs z)
+within place name least most z =
+    if int_lt z (pos least) || int_lt (pos most) z then Err (OutOfLimits place name) else Ok (unsigned_abs z)
 
 -- a number of elements from `least` to `most`
 abbrev pub count_within : Place → Name → ℕ → ℕ → ℕ → Result (Unit {0}) ProblemError

@@ -19,7 +19,8 @@ use Rattle.problem_toml.specs.declared.name.Name.TheVariants as key
 abbrev pub insert_member : List ℕ → Data → Members → Members
 insert_member k d no_members = member k d no_members
 insert_member k d (member l e ms) =
-    match_ordering (slice_cmp nat_cmp k l) (member k d (member l e ms)) (member l d ms) (member l e (insert_member k d ms))
+    match_ordering (slice_cmp nat_cmp k l) (member k d (member l e ms)) (member l d ms)
+    (member l e (insert_member k d ms))
 
 abbrev pub integer_items : List ℤ → Items
 integer_items [] = no_items

@@ -332,7 +332,8 @@ module _ (p : Plan) (words : List ℕ) (views : List (View RangeRecord)) (id : �
       in_shortened b = λ k. within b (low-shortened w k) (high-shortened w k)
 
   -- the hand becomes the own word, which was empty
-  pub publishes_hand : (i : ℕ) → (only v).done.worker ≡ i → (only v).done.dry ≡ true → (only v).hand_lo < (only v).hand_hi
+  pub publishes_hand : (i : ℕ) → (only v).done.worker ≡ i → (only v).done.dry ≡ true
+      → (only v).hand_lo < (only v).hand_hi
       → IsCounted p (set words i (range_word (only v).hand_lo (only v).hand_hi)) (now (published (only v)))
   publishes_hand i own dried some_hand = word_changes r refl i new mine refl refl
       (λ b. omega (

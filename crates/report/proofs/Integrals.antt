@@ -12,7 +12,8 @@ use Rattle.problem.specs.Sums.{places_of}
 use Rattle.report.specs.Fractions.{residues_of, AreReduced, IsOnlyFraction, AreFractions}
 
 -- the place of the integral i and the modulus j
-pub place_within : (p : ProblemView) (i j : ℕ) → i < length p.integrals → j < length p.moduli → i * length p.moduli + j < places_of p
+pub place_within : (p : ProblemView) (i j : ℕ) → i < length p.integrals → j < length p.moduli
+    → i * length p.moduli + j < places_of p
 place_within p i j h l = let w = mul-add-lt i (length p.moduli) j (length p.integrals) h l in omega (arith, w)
 
 pub modulus_there : (ms : List ℕ) (i j : ℕ) → j < length ms → modulus_at ms (i * length ms + j) ≡ slice_index ms j
@@ -25,7 +26,8 @@ integral_there ms integrals i j h = ap (λ q. get_or integrals q []) (div-mul-ad
 pub residue_there : (p : ProblemView) (residues : List ℕ) (i j : ℕ) → j < length p.moduli
     → slice_index (residues_of p residues i) j ≡ slice_index residues (i * length p.moduli + j)
 residue_there p residues i j h =
-    get_or-take (length p.moduli) (drop (i * length p.moduli) residues) j 0 h ∙ get_or-drop (i * length p.moduli) residues j 0
+    get_or-take (length p.moduli) (drop (i * length p.moduli) residues) j 0 h
+    ∙ get_or-drop (i * length p.moduli) residues j 0
 
 -- they are those that a fraction is found from
 pub residues_for : (p : ProblemView) (residues xs : List ℕ) (i : ℕ) → AreReduced p residues → i < length p.integrals
@@ -62,14 +64,18 @@ one_more p residues count found next h only = record {
     Holds i o = IsOnlyFraction p.moduli (residues_of p residues i) p.top_bound p.bottom_bound o
 
     before : (i : ℕ) → i < count → Holds i (get_or (found ++ next ∷ []) i None)
-    before i l = subst (Holds i) (sym (get_or_append_left found (next ∷ []) None i (subst (λ n. i < n) (sym h.as_many) l))) (h.each i l)
+    before i l =
+        subst (Holds i) (sym (get_or_append_left found (next ∷ []) None i (subst (λ n. i < n) (sym h.as_many) l)))
+        (h.each i l)
 
     last : (i : ℕ) → i < count + 1 → count ≤ i → Holds i (get_or (found ++ next ∷ []) i None)
     last i l k =
         let same : count ≡ i = omega (arith, l, k) in
-        subst (λ n. Holds n (get_or (found ++ next ∷ []) n None)) same (subst (Holds count) (sym (get_or_push found next None count h.as_many)) only)
+        subst (λ n. Holds n (get_or (found ++ next ∷ []) n None)) same
+        (subst (Holds count) (sym (get_or_push found next None count h.as_many)) only)
 
-pub all_fractions : (p : ProblemView) (residues : List ℕ) (count : ℕ) (found : List (Option Fraction)) → count ≡ length p.integrals
+pub all_fractions : (p : ProblemView) (residues : List ℕ) (count : ℕ) (found : List (Option Fraction))
+    → count ≡ length p.integrals
     → AreFirstFractions p residues count found → AreFractions p residues found
 all_fractions p residues count found e h = record {
   as_many = h.as_many ∙ e;

@@ -25,14 +25,16 @@ crossed m x n d a b h unit e f =
     exchanged : (b n : ℕ) → b * n ≡ n * b
     exchanged b n = omega arith
 
-pub residue_in_lowest_terms : (m x : ℕ) (s : unreduced.Fraction) (f : Fraction) → unreduced.IsResidue m s x → IsInLowestTerms s f
+pub residue_in_lowest_terms : (m x : ℕ) (s : unreduced.Fraction) (f : Fraction) → unreduced.IsResidue m s x
+    → IsInLowestTerms s f
     → m ∣ nat_abs (pos f.bottom *ℤ pos x -ℤ f.top)
 residue_in_lowest_terms m x s f r l =
     let some : 0 < m = let b = r.below in omega (arith, b) in
     let n = reduce m s.top in
     let d = reduce m s.bottom in
     let a = reduce m f.top in
-    let equation : (x * d) % m ≡ n % m = residue_equation m s x some r ∙ sym (mod-eq_of_lt (reduce_below m s.top some)) in
+    let equation : (x * d) % m ≡ n % m =
+    residue_equation m s x some r ∙ sym (mod-eq_of_lt (reduce_below m s.top some)) in
     let equal : (a * d) % m ≡ (n * f.bottom) % m =
     sym (reduce-*ℤ m f.top s.bottom some) ∙ ap (reduce m) l.equal ∙ reduce-*ℤ m s.top (pos f.bottom) some
     ∙ ap (λ q. (n * q) % m) (reduce-pos m f.bottom) ∙ (same_mul (same_refl m n) (same_mod m f.bottom)).is in

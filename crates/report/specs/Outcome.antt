@@ -18,4 +18,5 @@ pub record IsNoInverse (p : ProblemView) (number place : ℕ) : Type 0 where
   pub least : IsLeastBad (is_bad_of p) 0 (count_of p) number
   pub first : IsFirstBad (is_bad_modulo p number) p.moduli place
   pub tree : IsIn (tree_of p.shape number) (all_trees p.shape)
-  pub least_of_all : (g : DecoratedTree) → IsIn g (all_trees p.shape) → is_bad_tree_of p g ≡ true → number ≤ number_of p.shape g
+  pub least_of_all : (g : DecoratedTree) → IsIn g (all_trees p.shape) → is_bad_tree_of p g ≡ true
+      → number ≤ number_of p.shape g

@@ -20,10 +20,12 @@ record IsLed (p : ProblemView) (first : ℕ) (begin : List ℕ) (next : ℕ) (re
   order : first ≤ next
   summed : IsSummed (at_state p first begin) next residues
 
-go_on : (p : ProblemView) (first : ℕ) (begin : List ℕ) (next later : ℕ) (residues more : List ℕ) → KeepsRules p → IsLed p first begin next residues
+go_on : (p : ProblemView) (first : ℕ) (begin : List ℕ) (next later : ℕ) (residues more : List ℕ) → KeepsRules p
+    → IsLed p first begin next residues
     → next ≤ later → IsSummed (at_state p next residues) later more → IsSummed (at_state p first begin) later more
 go_on p first begin next later residues more rules led order summed =
-    summed_more (at_state p first begin) next later residues more rules led.order order led.summed summed.none_bad summed.are_residues summed.grew
+    summed_more
+    (at_state p first begin) next later residues more rules led.order order led.summed summed.none_bad summed.are_residues summed.grew
 
 is_later : (s : SumView) (budget k later : ℕ) (more : List ℕ) → IsPaused s budget k later more → s.next ≤ later
 is_later s budget k later more h =
@@ -32,7 +34,8 @@ is_later s budget k later more h =
     let at = h.at in
     omega arith
 
-is_led : (p : ProblemView) (first : ℕ) (begin : List ℕ) (next : ℕ) (residues : List ℕ) → KeepsRules p → IsChain p first begin next residues
+is_led : (p : ProblemView) (first : ℕ) (begin : List ℕ) (next : ℕ) (residues : List ℕ) → KeepsRules p
+    → IsChain p first begin next residues
     → IsLed p first begin next residues
 is_led p first begin next residues rules (begun most are) = record { order = omega arith; summed = nothing_summed (at_state p first begin) rules are }
 is_led p first begin last ended rules (paused next budget k later residues more chain h) =
@@ -42,10 +45,13 @@ is_led p first begin last ended rules (paused next budget k later residues more 
     record { order = omega arith; summed = go_on p first begin next later residues more rules led further h.summed }
 
 -- what one more call comes to, from where the chain began
-pub ends_chain : (p : ProblemView) (first : ℕ) (begin : List ℕ) (next : ℕ) (residues : List ℕ) (budget k : ℕ) (o : Outcome) → KeepsRules p
-    → next ≤ count_of p → IsChain p first begin next residues → IsOutcome (at_state p next residues) budget k o → IsEndOfChain (at_state p first begin) o
+pub ends_chain : (p : ProblemView) (first : ℕ) (begin : List ℕ) (next : ℕ) (residues : List ℕ) (budget k : ℕ) (o : Outcome)
+    → KeepsRules p
+    → next ≤ count_of p → IsChain p first begin next residues → IsOutcome (at_state p next residues) budget k o
+    → IsEndOfChain (at_state p first begin) o
 ends_chain p first begin next residues budget k (Done more) rules most chain h =
-    go_on p first begin next (count_of p) residues more rules (is_led p first begin next residues rules chain) most h.summed
+    go_on p first begin next (count_of p) residues more rules
+    (is_led p first begin next residues rules chain) most h.summed
 ends_chain p first begin next residues budget k (Paused later more) rules most chain h =
     go_on p first begin next later residues more rules (is_led p first begin next residues rules chain)
     (is_later (at_state p next residues) budget k later more h) h.summed

@@ -38,20 +38,25 @@ below_stop : (job : JobView) (j : ℕ) → job.first ≤ j → j < job.end → j
 unfolding block_of
 below_stop job j from below = omega arith
 
-pub clean_numbers : (job : JobView) → ((block : ℕ) → block < block_count job.first job.end → least_bad_of job block ≡ None)
+pub clean_numbers : (job : JobView)
+    → ((block : ℕ) → block < block_count job.first job.end → least_bad_of job block ≡ None)
     → NoneBad (is_bad_of job.problem) job.first job.end
 clean_numbers job h j from below =
     let block = block_of job j in
     let start = from_start job j from below in
     let stop = below_stop job j from below in
-    among_none_back (is_bad_of job.problem) (block_start job block) (block_stop job block - block_start job block) (h block (in_round job j from below)) j start (omega arith)
+    among_none_back (is_bad_of job.problem) (block_start job block) (block_stop job block - block_start job block)
+    (h block (in_round job j from below)) j start (omega arith)
 
-pub least_number : (job : JobView) (number : ℕ) → pool.IsLeastBad (least_bad_of job) (block_count job.first job.end) number → number < nothing_bad
+pub least_number : (job : JobView) (number : ℕ)
+    → pool.IsLeastBad (least_bad_of job) (block_count job.first job.end) number → number < nothing_bad
     → IsLeastBad (is_bad_of job.problem) job.first job.end number
 least_number job number h fits =
     let there = h.found fits in
     let block = there.0 in
-    let least = among_some_back (is_bad_of job.problem) (block_start job block) (block_stop job block - block_start job block) number there.2 in
+    let least =
+    among_some_back (is_bad_of job.problem) (block_start job block)
+    (block_stop job block - block_start job block) number there.2 in
     let from = least.from in
     let below = least.below in
     let inside : number < job.end = omega arith in
@@ -62,21 +67,26 @@ least_number job number h fits =
       least = λ j a b t. met j a (omega arith) b t (least_bad_of job (block_of job j)) refl;
     }
   where
-    met : (j : ℕ) → job.first ≤ j → j < job.end → j < number → is_bad_of job.problem j ≡ true → (o : Option ℕ) → least_bad_of job (block_of job j) ≡ o → ⊥
+    met : (j : ℕ) → job.first ≤ j → j < job.end → j < number → is_bad_of job.problem j ≡ true → (o : Option ℕ)
+        → least_bad_of job (block_of job j) ≡ o → ⊥
     met j a inside b t None e =
         let start = from_start job j a inside in
         let stop = below_stop job j a inside in
-        among_none_back (is_bad_of job.problem) (block_start job (block_of job j)) (block_stop job (block_of job j) - block_start job (block_of job j)) e j
+        among_none_back (is_bad_of job.problem) (block_start job (block_of job j))
+        (block_stop job (block_of job j) - block_start job (block_of job j)) e j
         start (omega arith) t
     met j a inside b t (Some k) e =
         let start = from_start job j a inside in
-        let first = among_some_back (is_bad_of job.problem) (block_start job (block_of job j)) (block_stop job (block_of job j) - block_start job (block_of job j)) k e in
+        let first =
+        among_some_back (is_bad_of job.problem) (block_start job (block_of job j))
+        (block_stop job (block_of job j) - block_start job (block_of job j)) k e in
         let less = h.none_less (block_of job j) k (in_round job j a inside) e in
         first.least j start (omega arith) t
 
 -- ---- sums
 -- past the last block there is no number
-pub none_anywhere : (job : JobView) → ((block : ℕ) → block < block_count job.first job.end → least_bad_of job block ≡ None)
+pub none_anywhere : (job : JobView)
+    → ((block : ℕ) → block < block_count job.first job.end → least_bad_of job block ≡ None)
     → (block : ℕ) → least_bad_of job block ≡ None
 unfolding least_bad_among
 none_anywhere job h block = dite (dec_lt block (block_count job.first job.end)) (λ inside. h block inside)
@@ -87,40 +97,51 @@ blocks_clean : (bs : List ℕ) → blocks_of (all_clean bs) ≡ bs
 blocks_clean [] = refl
 blocks_clean (b ∷ bs) = ap (λ xs. b ∷ xs) (blocks_clean bs)
 
-part_of_clean : (job : JobView) (part : PartSum) (bs : List ℕ) → ((block : ℕ) → least_bad_of job block ≡ None) → StandsFor job part (all_clean bs)
+part_of_clean : (job : JobView) (part : PartSum) (bs : List ℕ) → ((block : ℕ) → least_bad_of job block ≡ None)
+    → StandsFor job part (all_clean bs)
     → AreResiduesOf job.problem.moduli job.problem.integrals (sum_of_blocks job bs) part.sums
 part_of_clean job part bs none stands =
-    subst (λ xs. AreResiduesOf job.problem.moduli job.problem.integrals (sum_of_blocks job xs) part.sums) (blocks_clean bs)
+    subst (λ xs. AreResiduesOf job.problem.moduli job.problem.integrals (sum_of_blocks job xs) part.sums)
+    (blocks_clean bs)
     (stands.sums (record {
       seen = All-map (λ (q : ℕ × ℕ). q.1 ≡ nothing_bad) (λ b. (b, nothing_bad)) bs (λ k d lt. refl);
       none_bad = All-map (λ (q : ℕ × ℕ). least_bad_of job q.0 ≡ None) (λ b. (b, nothing_bad)) bs (λ k d lt. none _);
     }))
 
-pub round_residues : (job : JobView) (workers : ℕ) (owners : List ℕ) (parts after : List PartSum) → KeepsJob job → job.first ≤ job.end
-    → ((block : ℕ) → least_bad_of job block ≡ None) → All (λ part. StandsFor job part []) parts → length parts ≡ workers → length after ≡ workers
-    → IsCleanRound (StandsFor job) (plan (block_count job.first job.end) workers) owners parts after → (place : ℕ) → place < places_of job.problem
+pub round_residues : (job : JobView) (workers : ℕ) (owners : List ℕ) (parts after : List PartSum) → KeepsJob job
+    → job.first ≤ job.end
+    → ((block : ℕ) → least_bad_of job block ≡ None) → All (λ part. StandsFor job part []) parts → length parts ≡ workers
+    → length after ≡ workers
+    → IsCleanRound (StandsFor job) (plan (block_count job.first job.end) workers) owners parts after → (place : ℕ)
+    → place < places_of job.problem
     → IsResidue (modulus_at job.problem.moduli place)
     (partial_sum job.problem.weights job.problem.shape job.first job.end (integral_at job.problem.moduli job.problem.integrals place))
     (sum_by (sum_at place) after % modulus_at job.problem.moduli place)
 round_residues job workers owners parts after rules order none empty many long clean place within =
-    together job place (modulus_at job.problem.moduli place) (integral_at job.problem.moduli job.problem.integrals place) workers owners clean.blocks after
+    together job place (modulus_at job.problem.moduli place)
+    (integral_at job.problem.moduli job.problem.integrals place) workers owners clean.blocks after
     (modulus_above job.problem rules place) order long clean.legal
     (λ worker d lt. (part_of_clean job (slice_index_or after worker d) (slice_index_or clean.blocks worker []) none
     (clean.grown worker d lt [] (empty worker d (omega arith)))).each place within)
 
-pub round_grew : (job : JobView) (workers : ℕ) (owners : List ℕ) (parts after : List PartSum) (old new : List ℕ) → KeepsJob job → job.first ≤ job.end
-    → ((block : ℕ) → least_bad_of job block ≡ None) → All (λ part. StandsFor job part []) parts → length parts ≡ workers → length after ≡ workers
+pub round_grew : (job : JobView) (workers : ℕ) (owners : List ℕ) (parts after : List PartSum) (old new : List ℕ)
+    → KeepsJob job → job.first ≤ job.end
+    → ((block : ℕ) → least_bad_of job block ≡ None) → All (λ part. StandsFor job part []) parts → length parts ≡ workers
+    → length after ≡ workers
     → IsCleanRound (StandsFor job) (plan (block_count job.first job.end) workers) owners parts after
     → ((place : ℕ) → place < places_of job.problem
-    → slice_index new place ≡ (slice_index old place + sum_by (sum_at place) after) % modulus_at job.problem.moduli place)
+    → slice_index new place
+    ≡ (slice_index old place + sum_by (sum_at place) after) % modulus_at job.problem.moduli place)
     → GrewByNumbers job.problem job.first job.end old new
 round_grew job workers owners parts after old new rules order none empty many long clean added place within = record {
   value = sum_by (sum_at place) after % modulus_at job.problem.moduli place;
   is_residue = round_residues job workers owners parts after rules order none empty many long clean place within;
-  sum = added place within ∙ sym (add-mod-mod (slice_index old place) (sum_by (sum_at place) after) (modulus_at job.problem.moduli place));
+  sum = added place within
+      ∙ sym (add-mod-mod (slice_index old place) (sum_by (sum_at place) after) (modulus_at job.problem.moduli place));
 }
 
-pub reduced_residues : (p : ProblemView) (old new : List ℕ) → AreResidues p old → length new ≡ length old → AreReduced p new → AreResidues p new
+pub reduced_residues : (p : ProblemView) (old new : List ℕ) → AreResidues p old → length new ≡ length old
+    → AreReduced p new → AreResidues p new
 reduced_residues p old new was same reduced = record {
   one_each = same ∙ was.one_each;
   below = λ place lt. reduced place (let e = was.one_each in omega arith);
@@ -133,8 +154,10 @@ residues_reduced p residues h place within = h.below place (let e = h.one_each i
 abbrev pub job_of : ProblemView → FactorTable → ℕ → ℕ → JobView
 job_of p t first end = record { problem = p; table = t; first = first; end = end }
 
-pub least_of_range : (job : JobView) (p : ProblemView) (t : FactorTable) (first end blocks number : ℕ) → job ≡ job_of p t first end → blocks ≡ block_count job.first job.end
-    → pool.IsLeastBad (least_bad_of job) blocks number → number ≢ nothing_bad → number < 2 ^ 64 → IsLeastBad (is_bad_of p) first end number
+pub least_of_range : (job : JobView) (p : ProblemView) (t : FactorTable) (first end blocks number : ℕ)
+    → job ≡ job_of p t first end → blocks ≡ block_count job.first job.end
+    → pool.IsLeastBad (least_bad_of job) blocks number → number ≢ nothing_bad → number < 2 ^ 64
+    → IsLeastBad (is_bad_of p) first end number
 least_of_range job p t first end blocks number e b h apart fits =
     subst (λ (j : JobView). IsLeastBad (is_bad_of j.problem) j.first j.end number) e
     (least_number job number (subst (λ n. pool.IsLeastBad (least_bad_of job) n number) b h) (less number apart fits))

@@ -17,7 +17,8 @@ use Rattle.rounds.specs.Outcomes.{SumView, IsSummed, IsTrueSum}
 use Rattle.rounds.proofs.RoundLaws.{residues_reduced}
 
 -- no number
-pub nothing_summed : (s : SumView) → KeepsRules s.problem → AreResidues s.problem s.residues → IsSummed s s.next s.residues
+pub nothing_summed : (s : SumView) → KeepsRules s.problem → AreResidues s.problem s.residues
+    → IsSummed s s.next s.residues
 nothing_summed s rules residues = record {
   none_bad = λ j from below e. absurd (omega arith);
   are_residues = residues;
@@ -29,7 +30,8 @@ nothing_summed s rules residues = record {
         value = 0;
         is_residue = subst (λ f. IsResidue m f 0)
             (sym (partial_sum-none s.problem.weights s.problem.shape s.next (integral_at s.problem.moduli s.problem.integrals place))) (residue_of_zero m above);
-        sum = sym (ap (λ n. n % m) (let l : slice_index s.residues place + 0 ≡ slice_index s.residues place = omega arith in l) ∙ mod-eq_of_lt less);
+        sum = sym
+            (ap (λ n. n % m) (let l : slice_index s.residues place + 0 ≡ slice_index s.residues place = omega arith in l) ∙ mod-eq_of_lt less);
       };
 }
 
@@ -42,8 +44,10 @@ grew_twice m old mid new v w e f =
     ∙ sym (add-mod-mod old (v + w) m)
 
 -- more numbers
-pub summed_more : (s : SumView) (mid end : ℕ) (now later : List ℕ) → KeepsRules s.problem → s.next ≤ mid → mid ≤ end → IsSummed s mid now
-    → NoneBad (is_bad_of s.problem) mid end → AreResidues s.problem later → GrewByNumbers s.problem mid end now later → IsSummed s end later
+pub summed_more : (s : SumView) (mid end : ℕ) (now later : List ℕ) → KeepsRules s.problem → s.next ≤ mid → mid ≤ end
+    → IsSummed s mid now
+    → NoneBad (is_bad_of s.problem) mid end → AreResidues s.problem later → GrewByNumbers s.problem mid end now later
+    → IsSummed s end later
 summed_more s mid end now later rules from order before none residues grew = record {
   none_bad = none_append (is_bad_of s.problem) s.next mid end before.none_bad none;
   are_residues = residues;
@@ -55,15 +59,19 @@ summed_more s mid end now later rules from order before none residues grew = rec
       let b = grew place within in
       record {
         value = (a.value + b.value) % m;
-        is_residue = subst (λ f. IsResidue m f ((a.value + b.value) % m)) (sym (partial_sum-cut p.weights p.shape s.next mid end terms from order))
+        is_residue =
+            subst (λ f. IsResidue m f ((a.value + b.value) % m))
+            (sym (partial_sum-cut p.weights p.shape s.next mid end terms from order))
             (IsResidue-plus m (partial_sum p.weights p.shape s.next mid terms) (partial_sum p.weights p.shape mid end terms) a.value b.value
             (modulus_above p rules place) a.is_residue b.is_residue);
-        sum = grew_twice m (slice_index s.residues place) (slice_index now place) (slice_index later place) a.value b.value a.sum b.sum;
+        sum = grew_twice m (slice_index s.residues place) (slice_index now place)
+            (slice_index later place) a.value b.value a.sum b.sum;
       };
 }
 
 -- true sums stay true
-pub stays_true : (s : SumView) (end : ℕ) (residues : List ℕ) → KeepsRules s.problem → s.next ≤ end → IsSummed s end residues → IsTrueSum s
+pub stays_true : (s : SumView) (end : ℕ) (residues : List ℕ) → KeepsRules s.problem → s.next ≤ end
+    → IsSummed s end residues → IsTrueSum s
     → ArePartialSums s.problem 0 end residues
 stays_true s end residues rules order summed true_sum = record {
   as_many = let e = summed.are_residues.one_each in omega arith;
@@ -72,7 +80,8 @@ stays_true s end residues rules order summed true_sum = record {
       let m = modulus_at p.moduli place in
       let terms = integral_at p.moduli p.integrals place in
       let g = summed.grew place within in
-      subst (λ f. IsResidue m f (slice_index residues place)) (sym (partial_sum-cut p.weights p.shape 0 s.next end terms (omega arith) order))
+      subst (λ f. IsResidue m f (slice_index residues place))
+      (sym (partial_sum-cut p.weights p.shape 0 s.next end terms (omega arith) order))
       (subst (IsResidue m (plus (partial_sum p.weights p.shape 0 s.next terms) (partial_sum p.weights p.shape s.next end terms))) (sym g.sum)
       (IsResidue-plus m (partial_sum p.weights p.shape 0 s.next terms) (partial_sum p.weights p.shape s.next end terms) (slice_index s.residues place) g.value
       (modulus_above p rules place) (true_sum.each place within) g.is_residue));

@@ -14,7 +14,9 @@ use Rattle.problem.specs.Sums.{places_of}
 
 -- at most eight integrals and eight moduli have at most 64 sums
 pub at_most_64 : (p : ProblemView) → KeepsRules p → places_of p ≤ 64
-at_most_64 p rules = let most : length p.integrals * length p.moduli ≤ 8 * 8 = mul-le-mul rules.few_integrals rules.moduli.most in omega arith
+at_most_64 p rules =
+    let most : length p.integrals * length p.moduli ≤ 8 * 8 = mul-le-mul rules.few_integrals rules.moduli.most in
+    omega arith
 
 -- each modulus of a problem is above 1
 pub modulus_above : (p : ProblemView) → KeepsRules p → (place : ℕ) → 1 < modulus_at p.moduli place
@@ -25,7 +27,8 @@ modulus_above p rules place =
 
 -- one more entry that was written
 pub added_next : (P : ℕ → ℕ → ℕ → Type 0) (xs initial : List ℕ) (new place : ℕ) → place < length xs
-    → ((q : ℕ) → q < place → P q (slice_index initial q) (slice_index xs q)) → slice_index xs place ≡ slice_index initial place
+    → ((q : ℕ) → q < place → P q (slice_index initial q) (slice_index xs q))
+    → slice_index xs place ≡ slice_index initial place
     → P place (slice_index xs place) new
     → (q : ℕ) → q < place + 1 → P q (slice_index initial q) (slice_index (set xs place new) q)
 added_next P xs initial new place within before same here q h =
@@ -38,8 +41,10 @@ added_next P xs initial new place within before same here q h =
 
 pub rest_next : (xs initial : List ℕ) (new place : ℕ) → ((q : ℕ) → place ≤ q → slice_index xs q ≡ slice_index initial q)
     → (q : ℕ) → place + 1 ≤ q → slice_index (set xs place new) q ≡ slice_index initial q
-rest_next xs initial new place before q h = get_or-set_other xs place q new 0 (λ eq. absurd (omega arith)) ∙ before q (omega arith)
+rest_next xs initial new place before q h =
+    get_or-set_other xs place q new 0 (λ eq. absurd (omega arith)) ∙ before q (omega arith)
 
 -- the modulus that was read is that of the index
 pub modulus_there : (ms : List ℕ) (n place m : ℕ) → n ≡ length ms → slice_get ms (place % n) ≡ Some m → modulus_at ms place ≡ m
-modulus_there ms n place m l e = ap (λ k. slice_index ms (place % k)) (sym l) ∙ get_or_from_slice_get ms (place % n) m 0 e
+modulus_there ms n place m l e =
+    ap (λ k. slice_index ms (place % k)) (sym l) ∙ get_or_from_slice_get ms (place % n) m 0 e

@@ -17,7 +17,8 @@ pub among_none : (bad : ℕ → Bool) (lo n : ℕ) → NoneBad bad lo (lo + n) �
 unfolding least_bad_among
 among_none bad lo zero h = refl
 among_none bad lo (suc n) h =
-    pass (bad lo) (Some lo) _ (h lo (omega arith) (omega arith)) ∙ among_none bad (lo + 1) n (λ j from below. h j (omega arith) (omega arith))
+    pass (bad lo) (Some lo) _ (h lo (omega arith) (omega arith))
+    ∙ among_none bad (lo + 1) n (λ j from below. h j (omega arith) (omega arith))
 
 clash : {b : Bool} → b ≡ false → b ≡ true → ⊥
 clash p q = cc
@@ -29,7 +30,8 @@ among_some bad lo (suc n) k h =
     cases (bad lo) refl
     (λ apart. let from = h.from in
     let below = h.below in
-    among_some bad (lo + 1) n k (record { from = omega arith; below = omega arith; is_bad = h.is_bad; least = λ j a b. h.least j (omega arith) b }))
+    among_some bad (lo + 1) n k
+    (record { from = omega arith; below = omega arith; is_bad = h.is_bad; least = λ j a b. h.least j (omega arith) b }))
   where
     first : (k : ℕ) → lo ≤ k → (lo < k → ⊥) → lo ≡ k
     first k le not = grind arith
@@ -48,7 +50,8 @@ none_of_block job block order h =
 
 -- a block with one
 pub least_of_block : (job : JobView) (block k : ℕ) → block_start job block ≤ block_stop job block
-    → IsLeastBad (is_bad_of job.problem) (block_start job block) (block_stop job block) k → least_bad_of job block ≡ Some k
+    → IsLeastBad (is_bad_of job.problem) (block_start job block) (block_stop job block) k
+    → least_bad_of job block ≡ Some k
 least_of_block job block k order h =
     among_some (is_bad_of job.problem) (block_start job block) (block_stop job block - block_start job block) k
     (let below = h.below in record { from = h.from; below = omega arith; is_bad = h.is_bad; least = h.least })
@@ -59,7 +62,8 @@ unfolding least_bad_among
 among_none_back bad lo zero h j from below = absurd (omega arith)
 among_none_back bad lo (suc n) h j from below = cases (bad lo) refl (λ e. among_none_back bad (lo + 1) n e)
   where
-    cases : (b : Bool) → bad lo ≡ b → (least_bad_among bad (lo + 1) n ≡ None → NoneBad bad (lo + 1) (lo + 1 + n)) → bad j ≢ true
+    cases : (b : Bool) → bad lo ≡ b → (least_bad_among bad (lo + 1) n ≡ None → NoneBad bad (lo + 1) (lo + 1 + n))
+        → bad j ≢ true
     cases true e rest t = absurd (apart (sym h ∙ choose (bad lo) (Some lo) _ e))
       where
         apart : {x : ℕ} → None ≡ Some x → ⊥
@@ -76,7 +80,8 @@ among_some_back bad lo (suc n) k h = cases (bad lo) refl (λ e. among_some_back 
     same : {x y : ℕ} → Some x ≡ Some y → x ≡ y
     same p = cc
 
-    cases : (b : Bool) → bad lo ≡ b → (least_bad_among bad (lo + 1) n ≡ Some k → IsLeastBad bad (lo + 1) (lo + 1 + n) k) → IsLeastBad bad lo (lo + suc n) k
+    cases : (b : Bool) → bad lo ≡ b → (least_bad_among bad (lo + 1) n ≡ Some k → IsLeastBad bad (lo + 1) (lo + 1 + n) k)
+        → IsLeastBad bad lo (lo + suc n) k
     cases true e rest =
         let is : lo ≡ k = same (sym (choose (bad lo) (Some lo) _ e) ∙ h) in
         record { from = omega arith; below = omega arith; is_bad = sym (ap bad is) ∙ e; least = λ j a b. absurd (omega arith) }

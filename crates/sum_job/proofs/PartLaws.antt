@@ -27,11 +27,13 @@ use Rattle.sum_job.proofs.AddedResidues.{at_most_64, modulus_above}
 use Rattle.lists.proofs.Padding.{zeros}
 
 -- ---- no block
-pub empty_part : (job : JobView) (part : PartSum) → KeepsJob job → IsSeatOf part.seat job.table → part.sums ≡ replicate 64 0 → part.least ≡ nothing_bad
+pub empty_part : (job : JobView) (part : PartSum) → KeepsJob job → IsSeatOf part.seat job.table
+    → part.sums ≡ replicate 64 0 → part.least ≡ nothing_bad
     → IsReady job part × StandsFor job part []
 empty_part job part rules seat sums least =
     let long : length part.sums ≡ 64 = ap length sums ∙ length-replicate {A = ℕ} 64 0 in
-    let zero_at : (place : ℕ) → slice_index part.sums place ≡ 0 = λ place. ap (λ xs. slice_index xs place) sums ∙ zeros 64 place in
+    let zero_at : (place : ℕ) → slice_index part.sums place ≡ 0 =
+    λ place. ap (λ xs. slice_index xs place) sums ∙ zeros 64 place in
     let most = at_most_64 job.problem rules in (
       record {
         sums = record {
@@ -60,10 +62,12 @@ least-append [] ys = let most = least_most ys in omega arith
 least-append (x ∷ xs) ys = let e = least-append xs ys in omega arith
 
 answers-more : (g : ℕ → Option ℕ) (pairs : List (ℕ × ℕ)) (block seen : ℕ)
-    → least_of (answers g (pairs ++ (block, seen) ∷ [])) ≡ min (least_of (answers g pairs)) (least_of (option_to_list (at_most seen (g block))))
+    → least_of (answers g (pairs ++ (block, seen) ∷ []))
+    ≡ min (least_of (answers g pairs)) (least_of (option_to_list (at_most seen (g block))))
 answers-more g pairs block seen =
     ap least_of (filter_map-append (λ p. at_most p.1 (g p.0)) pairs ((block, seen) ∷ []))
-    ∙ least-append (answers g pairs) (answers g ((block, seen) ∷ [])) ∙ ap (min (least_of (answers g pairs))) (one (at_most seen (g block)))
+    ∙ least-append (answers g pairs) (answers g ((block, seen) ∷ []))
+    ∙ ap (min (least_of (answers g pairs))) (one (at_most seen (g block)))
   where
     one : (o : Option ℕ) → least_of (cons_option o []) ≡ least_of (option_to_list o)
     one None = refl
@@ -73,10 +77,12 @@ abbrev with_pair : List (ℕ × ℕ) → ℕ → ℕ → List (ℕ × ℕ)
 with_pair pairs block seen = pairs ++ (block, seen) ∷ []
 
 abbrev AreSums : JobView → List (ℕ × ℕ) → PartSum → Type 0
-AreSums job pairs part = AreResiduesOf job.problem.moduli job.problem.integrals (sum_of_blocks job (blocks_of pairs)) part.sums
+AreSums job pairs part =
+    AreResiduesOf job.problem.moduli job.problem.integrals (sum_of_blocks job (blocks_of pairs)) part.sums
 
 -- a seat that knows all that an older one knew knows the edges of a block still
-block_later : (job : JobView) (old new : FactorSeat) (block : ℕ) → IsLater job.table old new → KnowsBlock job old block → KnowsBlock job new block
+block_later : (job : JobView) (old new : FactorSeat) (block : ℕ) → IsLater job.table old new → KnowsBlock job old block
+    → KnowsBlock job new block
 block_later job old new block later knows k from below index within =
     edges_later job.table old new (tree_of job.problem.shape k) index later (knows k from below index within)
 
@@ -87,8 +93,12 @@ part_more : (job : JobView) (old new : PartSum) (pairs : List (ℕ × ℕ)) (blo
     → StandsFor job old pairs → StandsFor job new (with_pair pairs block seen)
 part_more job old new pairs block seen sums least later edges stands = record {
   sums = λ clean.
-      let all_seen = All-pop (λ (p : ℕ × ℕ). p.1 ≡ nothing_bad) (with_pair pairs block seen) pairs (Some (block, seen)) refl clean.seen in
-      let none = All-pop (λ (p : ℕ × ℕ). least_bad_of job p.0 ≡ None) (with_pair pairs block seen) pairs (Some (block, seen)) refl clean.none_bad in
+      let all_seen =
+      All-pop (λ (p : ℕ × ℕ). p.1 ≡ nothing_bad) (with_pair pairs block seen) pairs
+      (Some (block, seen)) refl clean.seen in
+      let none =
+      All-pop (λ (p : ℕ × ℕ). least_bad_of job p.0 ≡ None) (with_pair pairs block seen) pairs
+      (Some (block, seen)) refl clean.none_bad in
       let before : AreClean job pairs = record { seen = all_seen.0; none_bad = none.0 } in
       sums before all_seen.1 none.1 (stands.sums before);
   least = least ∙ ap (λ n. min n (least_of (option_to_list (at_most seen (least_bad_of job block))))) stands.least
@@ -99,7 +109,8 @@ part_more job old new pairs block seen sums least later edges stands = record {
       (All-nil (λ (q : ℕ × ℕ). IsWorked job q → KnowsBlock job new.seat q.0)));
 }
 
-least_fits : (job : JobView) (part : PartSum) (pairs : List (ℕ × ℕ)) → StandsFor job part pairs → part.least ≤ nothing_bad
+least_fits : (job : JobView) (part : PartSum) (pairs : List (ℕ × ℕ)) → StandsFor job part pairs
+    → part.least ≤ nothing_bad
 least_fits job part pairs stands =
     let e = stands.least in
     let most = least_most (answers (least_bad_of job) pairs) in
@@ -110,7 +121,8 @@ at_most-above : (seen : ℕ) (o : Option ℕ) → ((k : ℕ) → o ≡ Some k �
 at_most-above seen None h = refl
 at_most-above seen (Some k) h = let above = h k refl in let e : leb k seen ≡ false = not_leb k seen above in rw e
 
-pub answer_above : (job : JobView) (block seen : ℕ) → seen < block_start job block → at_most seen (least_bad_of job block) ≡ None
+pub answer_above : (job : JobView) (block seen : ℕ) → seen < block_start job block
+    → at_most seen (least_bad_of job block) ≡ None
 answer_above job block seen above =
     at_most-above seen (least_bad_of job block)
     (λ k e. let least = among_some_back (is_bad_of job.problem) (block_start job block) (block_stop job block - block_start job block) k e in
@@ -118,7 +130,8 @@ answer_above job block seen above =
     omega arith)
 
 -- a block that was passed over
-pub passed_over : (job : JobView) (part : PartSum) (block seen : ℕ) → IsSeatOf part.seat job.table → seen < nothing_bad → seen < block_start job block
+pub passed_over : (job : JobView) (part : PartSum) (block seen : ℕ) → IsSeatOf part.seat job.table → seen < nothing_bad
+    → seen < block_start job block
     → (pairs : List (ℕ × ℕ)) → StandsFor job part pairs → StandsFor job part (with_pair pairs block seen)
 passed_over job part block seen seat fits above pairs stands =
     part_more job part part pairs block seen (λ clean e none sums. absurd (omega arith))
@@ -152,7 +165,8 @@ noted job old new block seen least bad is later edges pairs stands =
     with_answer (Some x) = let most = fits in omega arith
 
 -- a block whose sum was added
-pub added : (job : JobView) (old new : PartSum) (block seen : ℕ) → KeepsJob job → length new.sums ≡ 64 → least_bad_of job block ≡ None
+pub added : (job : JobView) (old new : PartSum) (block seen : ℕ) → KeepsJob job → length new.sums ≡ 64
+    → least_bad_of job block ≡ None
     → IsAdded job.problem (block_start job block) (block_stop job block) old new
     → IsLater job.table old.seat new.seat → KnowsBlock job new.seat block
     → (pairs : List (ℕ × ℕ)) → StandsFor job old pairs → StandsFor job new (with_pair pairs block seen)
@@ -179,7 +193,8 @@ added job old new block seen rules long clean is later edges pairs stands =
     sum_more : (terms : List Term) → sum_of_blocks job (blocks_of (with_pair pairs block seen)) terms
         ≡ plus (sum_of_blocks job (blocks_of pairs) terms) (block_sum job terms block)
     sum_more terms =
-        ap (λ bs. sum_of_fractions (map (block_sum job terms) bs)) (map-append (λ (p : ℕ × ℕ). p.0) pairs ((block, seen) ∷ []))
+        ap (λ bs. sum_of_fractions (map (block_sum job terms) bs))
+        (map-append (λ (p : ℕ × ℕ). p.0) pairs ((block, seen) ∷ []))
         ∙ ap sum_of_fractions (map-append (block_sum job terms) (blocks_of pairs) (block ∷ []))
         ∙ sum_of_fractions-append (map (block_sum job terms) (blocks_of pairs)) (block_sum job terms block ∷ [])
         ∙ ap (plus (sum_of_blocks job (blocks_of pairs) terms)) (plus-zero (block_sum job terms block))

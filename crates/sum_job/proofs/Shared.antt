@@ -9,13 +9,15 @@ use Rattle.sum_job.specs.Parts.{AreReduced, GrewByNumbers}
 use Rattle.sum_job.proofs.AddedResidues.{modulus_above}
 
 -- sums that grew through the table grew by the numbers
-pub grown : (p : Problem) (start stop : ℕ) (old new : List ℕ) → GrowBy p (partial_sum p.setup p.shape start stop) old new
+pub grown : (p : Problem) (start stop : ℕ) (old new : List ℕ)
+    → GrowBy p (partial_sum p.setup p.shape start stop) old new
     → GrewByNumbers (view p) start stop old new
 grown p start stop old new h place within =
     let here = h place within in record { value = here.value; is_residue = here.is_residue; sum = here.sum }
 
 -- sums that grew are residues
-pub grown_reduced : (p : Problem) (start stop : ℕ) (old new : List ℕ) → GrewByNumbers (view p) start stop old new → AreReduced (view p) new
+pub grown_reduced : (p : Problem) (start stop : ℕ) (old new : List ℕ) → GrewByNumbers (view p) start stop old new
+    → AreReduced (view p) new
 grown_reduced p start stop old new h place within =
     let m = modulus_at p.moduli place in
     let here = h place within in

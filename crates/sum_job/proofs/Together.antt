@@ -76,7 +76,8 @@ times_up_to b zero = refl
 times_up_to b (suc n) = let more = times-append b (up_to n) (n ∷ []) in let before = times_up_to b n in omega arith
 
 -- legal claims have each block once
-claims_are_blocks : (blocks workers : ℕ) (owners : List ℕ) (taken : List (List ℕ)) → IsLegal (plan blocks workers) owners taken
+claims_are_blocks : (blocks workers : ℕ) (owners : List ℕ) (taken : List (List ℕ))
+    → IsLegal (plan blocks workers) owners taken
     → IsPermutation (up_to blocks) (concat taken)
 claims_are_blocks blocks workers owners taken legal =
     same_counts (up_to blocks) (concat taken)
@@ -92,10 +93,12 @@ sum_of_concat job terms (xs ∷ xss) =
     ∙ sum_of_fractions-append (map (block_sum job terms) xs) (map (block_sum job terms) (concat xss)))
 
 sum_up_to : (job : JobView) (terms : List Term) (k : ℕ) → job.first ≤ job.end → k ≤ block_count job.first job.end
-    → sum_of_blocks job (up_to k) terms ≡ partial_sum job.problem.weights job.problem.shape job.first (min (job.first + 64 * k) job.end) terms
+    → sum_of_blocks job (up_to k) terms
+    ≡ partial_sum job.problem.weights job.problem.shape job.first (min (job.first + 64 * k) job.end) terms
 unfolding up_to
 sum_up_to job terms zero order most =
-    sym (ap (λ n. partial_sum job.problem.weights job.problem.shape job.first n terms) (let l : min (job.first + 64 * 0) job.end ≡ job.first = omega arith in l)
+    sym
+    (ap (λ n. partial_sum job.problem.weights job.problem.shape job.first n terms) (let l : min (job.first + 64 * 0) job.end ≡ job.first = omega arith in l)
     ∙ partial_sum-none job.problem.weights job.problem.shape job.first terms)
 sum_up_to job terms (suc k) order most =
     let p = job.problem in
@@ -105,35 +108,43 @@ sum_up_to job terms (suc k) order most =
     ap sum_of_fractions (map-append (block_sum job terms) (up_to k) (k ∷ []))
     ∙ sum_of_fractions-append (map (block_sum job terms) (up_to k)) (block_sum job terms k ∷ [])
     ∙ ap₂ plus (sum_up_to job terms k order (omega arith)) (plus-zero (block_sum job terms k))
-    ∙ ap (λ n. plus (partial_sum p.weights p.shape job.first n terms) (block_sum job terms k)) (let l : min (job.first + 64 * k) job.end ≡ here = omega arith in l)
+    ∙ ap (λ n. plus (partial_sum p.weights p.shape job.first n terms) (block_sum job terms k))
+    (let l : min (job.first + 64 * k) job.end ≡ here = omega arith in l)
     ∙ sym (partial_sum-cut p.weights p.shape job.first here stop terms (omega arith) (omega arith))
-    ∙ ap (λ n. partial_sum p.weights p.shape job.first n terms) (let l : stop ≡ min (job.first + 64 * suc k) job.end = omega arith in l)
+    ∙ ap (λ n. partial_sum p.weights p.shape job.first n terms)
+    (let l : stop ≡ min (job.first + 64 * suc k) job.end = omega arith in l)
 
 -- all blocks together
-sum_of_all : (job : JobView) (terms : List Term) (workers : ℕ) (owners : List ℕ) (taken : List (List ℕ)) → job.first ≤ job.end
+sum_of_all : (job : JobView) (terms : List Term) (workers : ℕ) (owners : List ℕ) (taken : List (List ℕ))
+    → job.first ≤ job.end
     → IsLegal (plan (block_count job.first job.end) workers) owners taken
-    → sum_of_fractions (map (λ xs. sum_of_blocks job xs terms) taken) ≡ partial_sum job.problem.weights job.problem.shape job.first job.end terms
+    → sum_of_fractions (map (λ xs. sum_of_blocks job xs terms) taken)
+    ≡ partial_sum job.problem.weights job.problem.shape job.first job.end terms
 sum_of_all job terms workers owners taken order legal =
     let n = block_count job.first job.end in
     sum_of_concat job terms taken
     ∙ sum_of_blocks-order job (up_to n) (concat taken) terms (claims_are_blocks n workers owners taken legal)
     ∙ sum_up_to job terms n order (omega arith)
-    ∙ ap (λ e. partial_sum job.problem.weights job.problem.shape job.first e terms) (let l : min (job.first + 64 * n) job.end ≡ job.end = omega arith in l)
+    ∙ ap (λ e. partial_sum job.problem.weights job.problem.shape job.first e terms)
+    (let l : min (job.first + 64 * n) job.end ≡ job.end = omega arith in l)
 
 -- ---- the residues of the parts
-residues_of_parts : (m : ℕ) (place : ℕ) (f : List ℕ → Fraction) (taken : List (List ℕ)) (parts : List PartSum) → length taken ≡ length parts
+residues_of_parts : (m : ℕ) (place : ℕ) (f : List ℕ → Fraction) (taken : List (List ℕ)) (parts : List PartSum)
+    → length taken ≡ length parts
     → ((worker : ℕ) (d : PartSum) → worker < length parts → IsResidue m (f (slice_index_or taken worker [])) (sum_at place (slice_index_or parts worker d)))
     → AreResidues m (map f taken) (map (sum_at place) parts)
 residues_of_parts m place f [] [] e h = none
 residues_of_parts m place f [] (p ∷ parts) e h = absurd (omega arith)
 residues_of_parts m place f (xs ∷ taken) [] e h = absurd (omega arith)
 residues_of_parts m place f (xs ∷ taken) (p ∷ parts) e h =
-    one (h 0 p (omega arith)) (residues_of_parts m place f taken parts (omega arith) (λ worker d lt. h (suc worker) d (omega arith)))
+    one (h 0 p (omega arith))
+    (residues_of_parts m place f taken parts (omega arith) (λ worker d lt. h (suc worker) d (omega arith)))
 
 -- The parts of all workers, each of which has the residue of the sum over its worker's blocks, add up to the residue of
 -- the partial sum over the numbers of the job.
 pub together : (job : JobView) (place m : ℕ) (terms : List Term) (workers : ℕ) (owners : List ℕ) (taken : List (List ℕ)) (parts : List PartSum)
-    → 1 < m → job.first ≤ job.end → length parts ≡ workers → IsLegal (plan (block_count job.first job.end) workers) owners taken
+    → 1 < m → job.first ≤ job.end → length parts ≡ workers
+    → IsLegal (plan (block_count job.first job.end) workers) owners taken
     → ((worker : ℕ) (d : PartSum) → worker < workers
     → IsResidue m (sum_of_blocks job (slice_index_or taken worker []) terms) (sum_at place (slice_index_or parts worker d)))
     → IsResidue m (partial_sum job.problem.weights job.problem.shape job.first job.end terms) (sum_by (sum_at place) parts % m)

@@ -15,10 +15,13 @@ among_within bad lo (suc n) k e = cases (bad lo) e (λ f. among_within bad (lo +
     cases false f rest = let tail = rest f in let from = tail.0 in let below = tail.1 in (omega arith, omega arith)
 
 -- a bad number of a block is the number of a tree, and there are at most 2^40
-pub least_below : (job : JobView) (block bad : ℕ) → job.end ≤ count_of job.problem → count_of job.problem ≤ 2 ^ 40 → least_bad_of job block ≡ Some bad
+pub least_below : (job : JobView) (block bad : ℕ) → job.end ≤ count_of job.problem → count_of job.problem ≤ 2 ^ 40
+    → least_bad_of job block ≡ Some bad
     → bad < nothing_bad
 least_below job block bad within few e =
-    let both = among_within (is_bad_of job.problem) (block_start job block) (block_stop job block - block_start job block) bad e in
+    let both =
+    among_within (is_bad_of job.problem) (block_start job block)
+    (block_stop job block - block_start job block) bad e in
     let from = both.0 in
     let below = both.1 in
     omega arith

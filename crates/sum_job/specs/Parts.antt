@@ -49,7 +49,8 @@ least_bad_of job block =
 
 -- the sum of the contributions of a block's trees to an integral, and the sum over some blocks
 abbrev pub block_sum : JobView → List Term → ℕ → Fraction
-block_sum job terms block = partial_sum job.problem.weights job.problem.shape (block_start job block) (block_stop job block) terms
+block_sum job terms block =
+    partial_sum job.problem.weights job.problem.shape (block_start job block) (block_stop job block) terms
 
 abbrev pub sum_of_blocks : JobView → List ℕ → List Term → Fraction
 sum_of_blocks job blocks terms = sum_of_fractions (map (block_sum job terms) blocks)

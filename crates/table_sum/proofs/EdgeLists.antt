@@ -15,11 +15,14 @@ abbrev pub key_of_edge : ColouredEdge → Key
 key_of_edge e = Edge e.first e.second e.degree
 
 -- the seat knows all of these keys still
-pub all_later : (t : FactorTable) (old new : FactorSeat) (m : ℕ) (keys : List Key) → IsLater t old new → All (λ key. Knows old t key m) keys → All (λ key. Knows new t key m) keys
-all_later t old new m keys h all = All-weaker (λ key. Knows old t key m) (λ key. Knows new t key m) (λ key k. knows_later t old new key m h k) keys all
+pub all_later : (t : FactorTable) (old new : FactorSeat) (m : ℕ) (keys : List Key) → IsLater t old new
+    → All (λ key. Knows old t key m) keys → All (λ key. Knows new t key m) keys
+all_later t old new m keys h all =
+    All-weaker (λ key. Knows old t key m) (λ key. Knows new t key m) (λ key k. knows_later t old new key m h k) keys all
 
 -- .. and one more
-pub one_more : (t : FactorTable) (old new : FactorSeat) (m : ℕ) (es : List ColouredEdge) (i : ℕ) (d : ColouredEdge) → i < length es → IsLater t old new
+pub one_more : (t : FactorTable) (old new : FactorSeat) (m : ℕ) (es : List ColouredEdge) (i : ℕ) (d : ColouredEdge)
+    → i < length es → IsLater t old new
     → All (λ key. Knows old t key m) (map key_of_edge (take i es)) → Knows new t (key_of_edge (get_or es i d)) m
     → All (λ key. Knows new t key m) (map key_of_edge (take (i + 1) es))
 one_more t old new m es i d h later all k =

@@ -13,8 +13,10 @@ later_same t s h = record { seat = h; known = λ place k. k }
 pub later_after : (t : FactorTable) (a b c : FactorSeat) → IsLater t a b → IsLater t b c → IsLater t a c
 later_after t a b c p q = record { seat = q.seat; known = λ place k. q.known place (p.known place k) }
 
-pub later_by_word : (t : FactorTable) (old new : FactorSeat) (place : ℕ) → IsSeatOf new t → known_of new ≡ known_of old ++ place ∷ [] → IsLater t old new
+pub later_by_word : (t : FactorTable) (old new : FactorSeat) (place : ℕ) → IsSeatOf new t
+    → known_of new ≡ known_of old ++ place ∷ [] → IsLater t old new
 later_by_word t old new place h e = record { seat = h; known = λ q k. knows_still (known_of old) (place ∷ []) (known_of new) q e k }
 
-pub knows_later : (t : FactorTable) (old new : FactorSeat) (key : Key) (m : ℕ) → IsLater t old new → Knows old t key m → Knows new t key m
+pub knows_later : (t : FactorTable) (old new : FactorSeat) (key : Key) (m : ℕ) → IsLater t old new → Knows old t key m
+    → Knows new t key m
 knows_later t old new key m h k = h.known (place_in t key m) k

@@ -31,7 +31,8 @@ terms_few s (t ∷ ts) h =
     let rest = terms_few s ts (all_rest (IsTermOf s) t ts h) in
     rw (flat_map-cons classes_of_term t ts) (rw (length-append (classes_of_term t) (classes_of_terms ts)) (omega (arith, own, long, rest)))
 
-integrals_few : (s : TreeShape) (is : List (List Term)) → All (IsIntegralOf s) is → length (classes_of is) ≤ 16 * sum_by length is
+integrals_few : (s : TreeShape) (is : List (List Term)) → All (IsIntegralOf s) is
+    → length (classes_of is) ≤ 16 * sum_by length is
 integrals_few s [] h = omega arith
 integrals_few s (ts ∷ is) h =
     let own = terms_few s ts (h 0 ts (omega arith)).each in
@@ -49,7 +50,8 @@ pub table_few_classes : (p : Problem) (t : FactorTable) → IsTableOf (view p) t
 table_few_classes p t e = subst (λ n. n ≤ 512) (sym (ap (λ (q : Parameters). length q.classes) e)) (few_classes p)
 
 -- ---- the table
-pub table_shape : (p : Problem) (t : FactorTable) (s : TreeShape) → IsTableOf (view p) t → s ≡ p.shape → IsShapeIn (parameters_of t) s
+pub table_shape : (p : Problem) (t : FactorTable) (s : TreeShape) → IsTableOf (view p) t → s ≡ p.shape
+    → IsShapeIn (parameters_of t) s
 table_shape p t s e same =
     subst (IsShapeIn (parameters_of t)) (sym same)
     (subst (λ q. IsShapeIn q p.shape) (sym e)
@@ -62,7 +64,8 @@ pub table_moduli : (p : Problem) (t : FactorTable) → IsTableOf (view p) t → 
 table_moduli p t e = ap (λ (q : Parameters). q.moduli) e
 
 -- the classes of an integral in the table's list
-pub integral_classes : (p : Problem) (t : FactorTable) (i first : ℕ) (terms : List Term) → IsTableOf (view p) t → i < length p.integrals
+pub integral_classes : (p : Problem) (t : FactorTable) (i first : ℕ) (terms : List Term) → IsTableOf (view p) t
+    → i < length p.integrals
     → first ≡ length (flat_map classes_of_terms (take i p.integrals)) → slice_get p.integrals i ≡ Some terms
     → AreClassesFrom (parameters_of t).classes first (classes_of_terms terms)
 integral_classes p t i first terms e below count get =
@@ -76,12 +79,14 @@ integral_classes p t i first terms e below count get =
     (of_item classes_of_terms (classes_of p.integrals) 0 i p.integrals [] whole below))))
 
 -- the number of classes of one integral more
-pub count_within : (p : Problem) (i : ℕ) (terms : List Term) → i < length p.integrals → slice_get p.integrals i ≡ Some terms
+pub count_within : (p : Problem) (i : ℕ) (terms : List Term) → i < length p.integrals
+    → slice_get p.integrals i ≡ Some terms
     → length (flat_map classes_of_terms (take i p.integrals)) + length (classes_of_terms terms) ≤ 512
 count_within p i terms below get =
     let whole : AreClassesFrom (classes_of p.integrals) 0 (classes_of p.integrals) = record { within = omega arith; each = λ k d lt. let e : 0 + k ≡ k = omega arith in ap (λ n. get_or (classes_of p.integrals) n d) e } in
     let own = of_item classes_of_terms (classes_of p.integrals) 0 i p.integrals [] whole below in
     let within = own.within in
     let few = few_classes p in
-    let same : length (classes_of_terms (get_or p.integrals i [])) ≡ length (classes_of_terms terms) = ap (λ ts. length (classes_of_terms ts)) (get_or_from_slice_get p.integrals i terms [] get) in
+    let same : length (classes_of_terms (get_or p.integrals i [])) ≡ length (classes_of_terms terms) =
+    ap (λ ts. length (classes_of_terms ts)) (get_or_from_slice_get p.integrals i terms [] get) in
     omega (arith, within, few, same)

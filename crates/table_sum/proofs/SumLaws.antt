@@ -42,7 +42,8 @@ folded m a x y =
     turned : (a x y : ℕ) → a + x + y ≡ a + (x + y)
     turned a x y = omega arith
 
-adds_both : (m : ℕ) (f g : Fraction) (old mid new : ℕ) → 1 < m → AddsResidue m f old mid → AddsResidue m g mid new → AddsResidue m (plus f g) old new
+adds_both : (m : ℕ) (f g : Fraction) (old mid new : ℕ) → 1 < m → AddsResidue m f old mid → AddsResidue m g mid new
+    → AddsResidue m (plus f g) old new
 adds_both m f g old mid new above p q = record {
   value = (p.value + q.value) % m;
   is_residue = IsResidue-plus m f g p.value q.value above p.is_residue q.is_residue;
@@ -50,13 +51,15 @@ adds_both m f g old mid new above p q = record {
 }
 
 -- ---- the sums of a problem
-pub no_trees : (p : Problem) (first : ℕ) (sums : List ℕ) → AreBelow p sums → GrowBy p (partial_sum p.setup p.shape first first) sums sums
+pub no_trees : (p : Problem) (first : ℕ) (sums : List ℕ) → AreBelow p sums
+    → GrowBy p (partial_sum p.setup p.shape first first) sums sums
 no_trees p first sums below place within =
     subst (λ f. AddsResidue (modulus_at p.moduli place) f (slice_index sums place) (slice_index sums place))
     (sym (partial_sum-none p.setup p.shape first (integral_at p.moduli p.integrals place)))
     (adds_zero (modulus_at p.moduli place) (slice_index sums place) (modulus_above p place) (below place within))
 
-pub one_tree_more : (p : Problem) (first k : ℕ) (g : DecoratedTree) (old mid new : List ℕ) → first ≤ k → g ≡ tree_of p.shape k
+pub one_tree_more : (p : Problem) (first k : ℕ) (g : DecoratedTree) (old mid new : List ℕ) → first ≤ k
+    → g ≡ tree_of p.shape k
     → GrowBy p (partial_sum p.setup p.shape first k) old mid → GrowBy p (λ terms. contribution p.setup terms g) mid new
     → GrowBy p (partial_sum p.setup p.shape first (k + 1)) old new
 one_tree_more p first k g old mid new from e before more place within =
@@ -74,16 +77,20 @@ pub still_below : (p : Problem) (fraction_of : List Term → Fraction) (end : �
 still_below p fraction_of end old new below added rest place within =
     ⊎_elim
     (λ earlier. let a = added place earlier in let above = modulus_above p place in
-    subst (λ x. x < modulus_at p.moduli place) (sym a.sum) (mod-lt (slice_index old place + a.value) (omega (arith, above))))
+    subst (λ x. x < modulus_at p.moduli place) (sym a.sum)
+    (mod-lt (slice_index old place + a.value) (omega (arith, above))))
     (λ later. subst (λ x. x < modulus_at p.moduli place) (sym (rest place later)) (below place within))
     (cases_lt place end)
 
 -- the sum at the index of an integral and a modulus
-pub adds_here : (ws : List ℤ) (integrals : List (List Term)) (ms : List ℕ) (g : DecoratedTree) (i j place m old new x : ℕ) → place ≡ i * length ms + j → j < length ms
-    → slice_index ms j ≡ m → IsResidue (slice_index ms j) (contribution ws (get_or integrals i []) g) x → new ≡ (old + x) % m
+pub adds_here : (ws : List ℤ) (integrals : List (List Term)) (ms : List ℕ) (g : DecoratedTree) (i j place m old new x : ℕ)
+    → place ≡ i * length ms + j → j < length ms
+    → slice_index ms j ≡ m → IsResidue (slice_index ms j) (contribution ws (get_or integrals i []) g) x
+    → new ≡ (old + x) % m
     → AddsResidue (modulus_at ms place) (contribution ws (integral_at ms integrals place) g) old new
 adds_here ws integrals ms g i j place m old new x e below get r sum =
-    let at_place : modulus_at ms place ≡ slice_index ms j = ap (λ p. slice_index ms (p % length ms)) e ∙ ap (slice_index ms) (mod-mul-add i (length ms) j below) in
+    let at_place : modulus_at ms place ≡ slice_index ms j =
+    ap (λ p. slice_index ms (p % length ms)) e ∙ ap (slice_index ms) (mod-mul-add i (length ms) j below) in
     record {
       value = x;
       is_residue = subst (λ n. IsResidue n (contribution ws (integral_at ms integrals place) g) x) (sym at_place)
@@ -96,13 +103,16 @@ pub below_next : (Q : ℕ → Type 0) (i : ℕ) → ((k : ℕ) → k < i → Q k
 below_next Q i before here k below =
     ⊎_elim (λ earlier. before k earlier) (λ later. subst Q (let e : i ≡ k = omega arith in e) here) (cases_lt k i)
 
-pub edges_later : (t : FactorTable) (old new : FactorSeat) (g : DecoratedTree) (m : ℕ) → IsLater t old new → KnowsEdges old t g m → KnowsEdges new t g m
+pub edges_later : (t : FactorTable) (old new : FactorSeat) (g : DecoratedTree) (m : ℕ) → IsLater t old new
+    → KnowsEdges old t g m → KnowsEdges new t g m
 edges_later t old new g m h k = all_later t old new m (edge_keys g) h k
 
-pub tree_later : (p : ProblemView) (t : FactorTable) (old new : FactorSeat) (g : DecoratedTree) → IsLater t old new → KnowsTree p t old g → KnowsTree p t new g
+pub tree_later : (p : ProblemView) (t : FactorTable) (old new : FactorSeat) (g : DecoratedTree) → IsLater t old new
+    → KnowsTree p t old g → KnowsTree p t new g
 tree_later p t old new g h k index below = edges_later t old new g index h (k index below)
 
-pub trees_next : (p : ProblemView) (t : FactorTable) (old new : FactorSeat) (g : DecoratedTree) (first k : ℕ) → IsLater t old new → g ≡ tree_of p.shape k
+pub trees_next : (p : ProblemView) (t : FactorTable) (old new : FactorSeat) (g : DecoratedTree) (first k : ℕ)
+    → IsLater t old new → g ≡ tree_of p.shape k
     → KnowsTrees p t old first k → KnowsTree p t new g → KnowsTrees p t new first (k + 1)
 trees_next p t old new g first k h e before here q from below =
     ⊎_elim (λ earlier. tree_later p t old new (tree_of p.shape q) h (before q from earlier))

@@ -10,16 +10,19 @@ use Rattle.factor_table.specs.Factors.{HasParts, class_at, IsKeyOf}
 use Rattle.table_sum.specs.Ends.{IsEndIn}
 use Rattle.table_sum.specs.Trees.{IsShapeIn}
 
-pub edge_key : (p : Parameters) (s : TreeShape) (e : ColouredEdge) → IsShapeIn p s → IsEdgeOf s e → IsKeyOf p (Edge e.first e.second e.degree)
+pub edge_key : (p : Parameters) (s : TreeShape) (e : ColouredEdge) → IsShapeIn p s → IsEdgeOf s e
+    → IsKeyOf p (Edge e.first e.second e.degree)
 edge_key p s e h k =
     let colours = h.colours in let degrees = h.degrees in
     let first = k.first in let second = k.second in let within = k.degree_within in
     record {
-      within = (omega arith, record { colour_within = omega arith; degree_positive = k.degree_positive; degree_within = omega arith });
+      within =
+          (omega arith, record { colour_within = omega arith; degree_positive = k.degree_positive; degree_within = omega arith });
       has_fraction = k.different;
     }
 
-pub class_edge_key : (p : Parameters) (s : TreeShape) (e : ColouredEdge) (class : ℕ) → IsShapeIn p s → IsEdgeOf s e → class < length p.classes → HasParts (class_at p class)
+pub class_edge_key : (p : Parameters) (s : TreeShape) (e : ColouredEdge) (class : ℕ) → IsShapeIn p s → IsEdgeOf s e
+    → class < length p.classes → HasParts (class_at p class)
     → IsKeyOf p (ClassEdge class e.first e.second e.degree)
 class_edge_key p s e class h k there has =
     let key = edge_key p s e h k in record {
@@ -27,7 +30,8 @@ class_edge_key p s e class h k there has =
       has_fraction = (has, key.has_fraction);
     }
 
-pub class_vertex_key : (p : Parameters) (s : TreeShape) (class c n : ℕ) → IsShapeIn p s → c ≤ s.rank → 1 ≤ n → n ≤ s.degree → class < length p.classes → HasParts (class_at p class)
+pub class_vertex_key : (p : Parameters) (s : TreeShape) (class c n : ℕ) → IsShapeIn p s → c ≤ s.rank → 1 ≤ n
+    → n ≤ s.degree → class < length p.classes → HasParts (class_at p class)
     → IsKeyOf p (ClassVertex class c n)
 class_vertex_key p s class c n h colour some most there has =
     let colours = h.colours in let degrees = h.degrees in

@@ -31,4 +31,5 @@ tangent_power ws c s = power_of_fraction (fraction (tangent_product ws c) (pos 1
 -- T^(s-1), times the product of the flags and the power n of their sum
 abbrev pub power_at_ends : List ℤ → ℕ → List End → ℕ → Fraction
 power_at_ends ws c es n =
-    times (times (tangent_power ws c (length es)) (product_of_flags ws c es)) (power_of_fraction (sum_of_flags ws c es) n)
+    times (times (tangent_power ws c (length es)) (product_of_flags ws c es))
+    (power_of_fraction (sum_of_flags ws c es) n)

@@ -10,11 +10,13 @@ status_by all = if all then 0 else 1
 pub returns-then-all : goal.returns-then-all
 returns-then-all c =
     let e : c.all.result ≡ list_all is_some c.args.fractions.now =
-    all_from_yields_List is_some _ _ _ c.all.ensures.ran (YieldsList-from_slice c.args.fractions.now cc) (λ x b q k. search (rules, tests)) in
+    all_from_yields_List is_some _ _ _ c.all.ensures.ran (YieldsList-from_slice c.args.fractions.now cc)
+    (λ x b q k. search (rules, tests)) in
     ap status_by (sym c.if-all.true ∙ e)
 
 pub returns-else-all : goal.returns-else-all
 returns-else-all c =
     let e : c.all.result ≡ list_all is_some c.args.fractions.now =
-    all_from_yields_List is_some _ _ _ c.all.ensures.ran (YieldsList-from_slice c.args.fractions.now cc) (λ x b q k. search (rules, tests)) in
+    all_from_yields_List is_some _ _ _ c.all.ensures.ran (YieldsList-from_slice c.args.fractions.now cc)
+    (λ x b q k. search (rules, tests)) in
     ap status_by (sym c.if-all.false ∙ e)

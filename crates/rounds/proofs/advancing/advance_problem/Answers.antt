@@ -17,7 +17,8 @@ use Rattle.rounds.proofs.ChainLaws.{ends_chain}
 use Rattle.rounds.proofs.advancing.advance_problem.Goals as goal
 
 -- what holds of every value for which another fact does holds of the value of a result
-of_value : {T E : Type 0} (P Q : T → Type 0) (result : Result T E) → ((x : T) → P x → Q x) → IfOk result P → IfOk result Q
+of_value : {T E : Type 0} (P Q : T → Type 0) (result : Result T E) → ((x : T) → P x → Q x) → IfOk result P
+    → IfOk result Q
 of_value P Q (Ok x) f h = f x h
 of_value P Q (Err e) f h = tt
 
@@ -25,24 +26,30 @@ abbrev sum_from : Problem → ℕ → List ℕ → SumView
 sum_from p next residues = record { problem = problem_view p; next = next; residues = residues }
 
 -- the progress over the problem of a table, on as many workers as there are parts
-over : {E : Type 0} (p q : Problem) (next : ℕ) (residues : List ℕ) (budget many workers : ℕ) (result : Result Progress E) → q ≡ p → many ≡ workers
-    → IfOk result (IsProgress (sum_from q next residues) budget many) → IfOk result (IsProgress (sum_from p next residues) budget workers)
+over : {E : Type 0} (p q : Problem) (next : ℕ) (residues : List ℕ) (budget many workers : ℕ) (result : Result Progress E)
+    → q ≡ p → many ≡ workers
+    → IfOk result (IsProgress (sum_from q next residues) budget many)
+    → IfOk result (IsProgress (sum_from p next residues) budget workers)
 over p q next residues budget many workers result e f h =
     subst (λ (x : Problem). IfOk result (IsProgress (sum_from x next residues) budget workers)) e
     (subst (λ n. IfOk result (IsProgress (sum_from q next residues) budget n)) f h)
 
 -- ---- what follows of the progress of a call
 in_problem : {E : Type 0} (p : Problem) (next : ℕ) (residues : List ℕ) (budget workers : ℕ) (result : Result Progress E)
-    → IfOk result (IsProgress (sum_from p next residues) budget workers) → IfOk result (λ to. IsOfProblem (problem_view p) to.outcome)
+    → IfOk result (IsProgress (sum_from p next residues) budget workers)
+    → IfOk result (λ to. IsOfProblem (problem_view p) to.outcome)
 in_problem p next residues budget workers result =
     of_value _ _ result (λ to is. of_problem (sum_from p next residues) budget is.rounds to.outcome is.outcome)
 
-true_still : {E : Type 0} (p : Problem) (next : ℕ) (residues : List ℕ) (budget workers : ℕ) (result : Result Progress E) → next ≤ count_of (problem_view p)
-    → IfOk result (IsProgress (sum_from p next residues) budget workers) → IfOk result (λ to. KeepsTruth (sum_from p next residues) to.outcome)
+true_still : {E : Type 0} (p : Problem) (next : ℕ) (residues : List ℕ) (budget workers : ℕ) (result : Result Progress E)
+    → next ≤ count_of (problem_view p)
+    → IfOk result (IsProgress (sum_from p next residues) budget workers)
+    → IfOk result (λ to. KeepsTruth (sum_from p next residues) to.outcome)
 true_still p next residues budget workers result most =
     of_value _ _ result (λ to is. truth_of (sum_from p next residues) budget workers to p.rules most is)
 
-chained : {E : Type 0} (p : Problem) (next : ℕ) (residues : List ℕ) (budget workers : ℕ) (result : Result Progress E) → next ≤ count_of (problem_view p)
+chained : {E : Type 0} (p : Problem) (next : ℕ) (residues : List ℕ) (budget workers : ℕ) (result : Result Progress E)
+    → next ≤ count_of (problem_view p)
     → IfOk result (IsProgress (sum_from p next residues) budget workers)
     → IfOk result (λ to. (first : ℕ) (begin : List ℕ) → IsChain (problem_view p) first begin next residues → IsEndOfChain (sum_from p first begin) to.outcome)
 chained p next residues budget workers result most =
@@ -52,14 +59,18 @@ chained p next residues budget workers result most =
 -- ---- with rounds
 pub run_rounds-requires-clause-seats : goal.run_rounds-requires-clause-seats
 run_rounds-requires-clause-seats g c κs within =
-    let seats : All (λ (seat : FactorSeat). IsSeatOf seat c.in_ok-table.table) c.in_ok-table.seats.items = λ k d lt. (c.in_ok-table.ensures.seated k d lt).0 in
-    let parts : All (λ (part : PartSum). IsSeatOf part.seat c.in_ok-table.table) c.in_ok-parts.parts.items = c.in_ok-parts.ensures.seats c.in_ok-table.table seats in
-    subst (λ xs. All (λ (part : PartSum). IsSeatOf part.seat (table_of c.of-sum.result)) xs) (sym c.as_mut_slice.ensures.value)
+    let seats : All (λ (seat : FactorSeat). IsSeatOf seat c.in_ok-table.table) c.in_ok-table.seats.items =
+    λ k d lt. (c.in_ok-table.ensures.seated k d lt).0 in
+    let parts : All (λ (part : PartSum). IsSeatOf part.seat c.in_ok-table.table) c.in_ok-parts.parts.items =
+    c.in_ok-parts.ensures.seats c.in_ok-table.table seats in
+    subst (λ xs. All (λ (part : PartSum). IsSeatOf part.seat (table_of c.of-sum.result)) xs)
+    (sym c.as_mut_slice.ensures.value)
     (subst (λ (t : FactorTable). All (λ (part : PartSum). IsSeatOf part.seat t) c.in_ok-parts.parts.items) (sym c.of-sum.ensures.table) parts)
 
 pub returns-clause-progress : goal.returns-clause-progress
 returns-clause-progress g c =
-    over c.args.problem.now (problem_of c.of-sum.result) c.args.next c.args.residues.now c.args.budget (length c.as_mut_slice.result.now) c.args.workers
+    over c.args.problem.now (problem_of c.of-sum.result) c.args.next c.args.residues.now c.args.budget
+    (length c.as_mut_slice.result.now) c.args.workers
     c.run_rounds.result c.of-sum.ensures.problem
     (ap length c.as_mut_slice.ensures.value ∙ c.in_ok-parts.ensures.many ∙ c.in_ok-table.ensures.seats) c.run_rounds.ensures.progress
 
@@ -88,20 +99,25 @@ returns-clause-chain g c =
 pub returns-then-next-count-clause-progress : goal.returns-then-next-count-clause-progress
 returns-then-next-count-clause-progress g c =
     let p = c.args.problem.now in
-    ends_at_once (sum_from p c.args.next c.args.residues.now) c.args.budget c.args.workers c.of-residues.result c.new-shares.result
-    p.rules (c.if-next-count.true ∙ c.count.ensures.value) c.requires.residues (c.of-residues.ensures ∙ c.in_ok-from_slice.ensures.items) c.new-shares.ensures
+    ends_at_once
+    (sum_from p c.args.next c.args.residues.now) c.args.budget c.args.workers c.of-residues.result c.new-shares.result
+    p.rules (c.if-next-count.true ∙ c.count.ensures.value) c.requires.residues
+    (c.of-residues.ensures ∙ c.in_ok-from_slice.ensures.items) c.new-shares.ensures
 
 pub returns-then-next-count-clause-of_problem : goal.returns-then-next-count-clause-of_problem
 returns-then-next-count-clause-of_problem g c =
     let p = c.args.problem.now in
-    in_problem {E = ℕ} p c.args.next c.args.residues.now c.args.budget c.args.workers (Ok _) (returns-then-next-count-clause-progress g c)
+    in_problem {E = ℕ} p c.args.next c.args.residues.now c.args.budget c.args.workers (Ok _)
+    (returns-then-next-count-clause-progress g c)
 
 pub returns-then-next-count-clause-truth : goal.returns-then-next-count-clause-truth
 returns-then-next-count-clause-truth g c =
     let p = c.args.problem.now in
-    true_still {E = ℕ} p c.args.next c.args.residues.now c.args.budget c.args.workers (Ok _) c.requires.next (returns-then-next-count-clause-progress g c)
+    true_still {E = ℕ} p c.args.next c.args.residues.now c.args.budget c.args.workers (Ok _) c.requires.next
+    (returns-then-next-count-clause-progress g c)
 
 pub returns-then-next-count-clause-chain : goal.returns-then-next-count-clause-chain
 returns-then-next-count-clause-chain g c =
     let p = c.args.problem.now in
-    chained {E = ℕ} p c.args.next c.args.residues.now c.args.budget c.args.workers (Ok _) c.requires.next (returns-then-next-count-clause-progress g c)
+    chained {E = ℕ} p c.args.next c.args.residues.now c.args.budget c.args.workers (Ok _) c.requires.next
+    (returns-then-next-count-clause-progress g c)

@@ -16,12 +16,14 @@ loop-at-init g c =
     let p = problem_view (problem_of c.args.sum.now) in
     let s : SumView = record { problem = p; next = c.args.next; residues = c.args.residues.now } in
     let most = c.requires.next in
-    let value : c.count-count.result ≡ count_of p = c.count-count.ensures.value ∙ ap (λ (q : Problem). count_of (problem_view q)) c.problem.ensures in
+    let value : c.count-count.result ≡ count_of p =
+    c.count-count.ensures.value ∙ ap (λ (q : Problem). count_of (problem_view q)) c.problem.ensures in
     let is_end = c.min-end.ensures in
     record {
       from = omega arith;
       to = omega arith;
-      running = subst (λ xs. IsRunning s c.args.budget c.args.next xs c.new-shares.result) (sym c.in_ok-sums.ensures.items)
+      running =
+          subst (λ xs. IsRunning s c.args.budget c.args.next xs c.new-shares.result) (sym c.in_ok-sums.ensures.items)
           (starts s c.args.budget c.new-shares.result (problem_of c.args.sum.now).rules most c.requires.residues
           (subst (λ xs. sum xs ≡ 0) (sym c.new-shares.ensures) (no_shares (length c.args.parts.now))));
       parts = refl;
@@ -44,32 +46,41 @@ returns-in-Some-clause-progress g c =
     let p = problem_view (problem_of c.args.sum.now) in
     let s : SumView = record { problem = p; next = c.args.next; residues = c.args.residues.now } in
     let rules = (problem_of c.args.sum.now).rules in
-    let is_count : c.count-count.result ≡ count_of p = c.count-count.ensures.value ∙ ap (λ (q : Problem). count_of (problem_view q)) c.problem.ensures in
-    let is_end : c.min-end.result ≡ end_of s c.args.budget = c.min-end.ensures ∙ ap (λ n. min n (c.args.next + c.args.budget)) is_count in
-    subst (λ o. IsProgress s c.args.budget (length c.args.parts.now) (record { outcome = o; shares = c.sum_round.new.shares })) (sym c.bad_outcome-outcome.ensures)
+    let is_count : c.count-count.result ≡ count_of p =
+    c.count-count.ensures.value ∙ ap (λ (q : Problem). count_of (problem_view q)) c.problem.ensures in
+    let is_end : c.min-end.result ≡ end_of s c.args.budget =
+    c.min-end.ensures ∙ ap (λ n. min n (c.args.next + c.args.budget)) is_count in
+    subst
+    (λ o. IsProgress s c.args.budget (length c.args.parts.now) (record { outcome = o; shares = c.sum_round.new.shares }))
+    (sym c.bad_outcome-outcome.ensures)
     (bad_progress s c.args.budget (length c.args.parts.now) c.min-end.result c.loop-at.at c.min.result c.loop-at.sums.items c.as_mut_slice.result.now c.sum_round.new.residues
     c.loop-at.shares c.sum_round.new.shares c.in_ok-found.found c.in-Some.bad is_end c.loop-at-test.true c.min.ensures c.loop-at.invariant.running c.in-Some.is
-    c.in_ok-found.ensures.summed c.in_ok-found.ensures.blocks (c.in_ok-found.ensures.workers ∙ c.loop-at.invariant.shares))
+    c.in_ok-found.ensures.summed c.in_ok-found.ensures.blocks
+    (c.in_ok-found.ensures.workers ∙ c.loop-at.invariant.shares))
 
 pub returns-then-branch-clause-progress : goal.returns-then-branch-clause-progress
 returns-then-branch-clause-progress g c =
     let p = problem_view (problem_of c.args.sum.now) in
     let s : SumView = record { problem = p; next = c.args.next; residues = c.args.residues.now } in
     let rules = (problem_of c.args.sum.now).rules in
-    let is_count : c.count-count.result ≡ count_of p = c.count-count.ensures.value ∙ ap (λ (q : Problem). count_of (problem_view q)) c.problem.ensures in
-    let is_end : c.min-end.result ≡ end_of s c.args.budget = c.min-end.ensures ∙ ap (λ n. min n (c.args.next + c.args.budget)) is_count in
+    let is_count : c.count-count.result ≡ count_of p =
+    c.count-count.ensures.value ∙ ap (λ (q : Problem). count_of (problem_view q)) c.problem.ensures in
+    let is_end : c.min-end.result ≡ end_of s c.args.budget =
+    c.min-end.ensures ∙ ap (λ n. min n (c.args.next + c.args.budget)) is_count in
     let slice = c.as_mut_slice.ensures in
     let running =
     next_running s c.args.budget c.min-end.result c.loop-at.at c.min.result c.loop-at.sums.len c.loop-at.sums.items c.as_mut_slice.result.now
     c.sum_round.new.residues c.loop-at.shares c.sum_round.new.shares c.in_ok-found.found rules is_end c.loop-at.invariant.from c.loop-at-test.true
     c.min.ensures c.loop-at.invariant.running slice.value c.in_default.is c.in_ok-found.ensures.summed
-    (c.sum_round.auto.residues ∙ ap length slice.value) (sym slice.len ∙ ap length slice.value) c.in_ok-found.ensures.blocks in
+    (c.sum_round.auto.residues ∙ ap length slice.value)
+    (sym slice.len ∙ ap length slice.value) c.in_ok-found.ensures.blocks in
     let many = c.in_ok-found.ensures.workers ∙ c.loop-at.invariant.shares in
     let inside = c.loop-at-test.true in
     let from = c.loop-at.invariant.from in
     let step = c.min.ensures in
     let progress =
-    ends s c.args.budget (length c.args.parts.now) c.count-count.result (c.loop-at.at + c.min.result) _ c.sum_round.new.shares c.outcome_at.result c.outcome_at.ensures
+    ends s c.args.budget (length c.args.parts.now) c.count-count.result
+    (c.loop-at.at + c.min.result) _ c.sum_round.new.shares c.outcome_at.result c.outcome_at.ensures
     is_count (omega arith) (λ apart. omega arith) running many in
     progress
 
@@ -78,14 +89,17 @@ loop-at-preserved g c =
     let p = problem_view (problem_of c.args.sum.now) in
     let s : SumView = record { problem = p; next = c.args.next; residues = c.args.residues.now } in
     let rules = (problem_of c.args.sum.now).rules in
-    let is_count : c.count-count.result ≡ count_of p = c.count-count.ensures.value ∙ ap (λ (q : Problem). count_of (problem_view q)) c.problem.ensures in
-    let is_end : c.min-end.result ≡ end_of s c.args.budget = c.min-end.ensures ∙ ap (λ n. min n (c.args.next + c.args.budget)) is_count in
+    let is_count : c.count-count.result ≡ count_of p =
+    c.count-count.ensures.value ∙ ap (λ (q : Problem). count_of (problem_view q)) c.problem.ensures in
+    let is_end : c.min-end.result ≡ end_of s c.args.budget =
+    c.min-end.ensures ∙ ap (λ n. min n (c.args.next + c.args.budget)) is_count in
     let slice = c.as_mut_slice.ensures in
     let running =
     next_running s c.args.budget c.min-end.result c.loop-at.at c.min.result c.loop-at.sums.len c.loop-at.sums.items c.as_mut_slice.result.now
     c.sum_round.new.residues c.loop-at.shares c.sum_round.new.shares c.in_ok-found.found rules is_end c.loop-at.invariant.from c.loop-at-test.true
     c.min.ensures c.loop-at.invariant.running slice.value c.in_default.is c.in_ok-found.ensures.summed
-    (c.sum_round.auto.residues ∙ ap length slice.value) (sym slice.len ∙ ap length slice.value) c.in_ok-found.ensures.blocks in
+    (c.sum_round.auto.residues ∙ ap length slice.value)
+    (sym slice.len ∙ ap length slice.value) c.in_ok-found.ensures.blocks in
     let many = c.in_ok-found.ensures.workers ∙ c.loop-at.invariant.shares in
     let inside = c.loop-at-test.true in
     let from = c.loop-at.invariant.from in
@@ -97,5 +111,6 @@ loop-at-preserved g c =
       parts = c.sum_round.auto.parts ∙ c.loop-at.invariant.parts;
       seats = c.in_ok-found.ensures.seats;
       shares = many;
-      stayed = stayed_on c.loop-at.invariant.stayed (c.in_ok-is_stopped.ensures.kept (λ e. let no = c.if-branch.false in cc));
+      stayed = stayed_on c.loop-at.invariant.stayed
+          (c.in_ok-is_stopped.ensures.kept (λ e. let no = c.if-branch.false in cc));
     }

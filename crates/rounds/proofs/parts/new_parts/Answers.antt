@@ -18,7 +18,9 @@ loop-seat-preserved c =
       many = omega arith;
       seats = λ table all.
           let kept = c.loop-seat.invariant.seats table all in
-          let rest = All-pop (λ (seat : FactorSeat). IsSeatOf seat table) c.loop-seat.seats.items c.pop.new.self.items c.pop.result c.pop.ensures.items kept.1 in
+          let rest =
+          All-pop
+          (λ (seat : FactorSeat). IsSeatOf seat table) c.loop-seat.seats.items c.pop.new.self.items c.pop.result c.pop.ensures.items kept.1 in
           let here = subst (λ o. IfSome o (λ (seat : FactorSeat). IsSeatOf seat table)) c.in-Some.is rest.1 in (
             All-same (λ (part : PartSum). IsSeatOf part.seat table) c.push.new.self.items _ c.in_ok-push.ensures.items
                 (All-push (λ (part : PartSum). IsSeatOf part.seat table) parts c.new.result kept.0

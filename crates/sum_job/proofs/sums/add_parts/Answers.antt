@@ -14,9 +14,11 @@ more_added : (parts : List PartSum) (i : ℕ) (d : PartSum) (q m initial old new
 more_added parts i d q m initial old new lt e f =
     let x = sum_at q (slice_index_or parts i d) in
     let s = sum_by (sum_at q) (take i parts) in
-    f ∙ ap (λ n. (n + x) % m) e ∙ ap (λ n. n % m) (let l : (initial + s) % m + x ≡ x + (initial + s) % m = omega arith in l)
+    f ∙ ap (λ n. (n + x) % m) e
+    ∙ ap (λ n. n % m) (let l : (initial + s) % m + x ≡ x + (initial + s) % m = omega arith in l)
     ∙ add-mod-mod x (initial + s) m
-    ∙ ap (λ n. n % m) (let more = sum_by_more (sum_at q) parts i d lt in let l : x + (initial + s) ≡ initial + sum_by (sum_at q) (take (i + 1) parts) = omega arith in l)
+    ∙ ap (λ n. n % m)
+    (let more = sum_by_more (sum_at q) parts i d lt in let l : x + (initial + s) ≡ initial + sum_by (sum_at q) (take (i + 1) parts) = omega arith in l)
 
 pub loop-part-preserved : goal.loop-part-preserved
 loop-part-preserved c = record {

@@ -10,7 +10,8 @@ abbrev pub invariant-loop-part : goal.invariant-loop-part
 invariant-loop-part l = record {
   size : length l.residues ≡ length l.initial.residues;
   added : (q : ℕ) → q < places_of (view l.problem)
-      → slice_index l.residues q ≡ (slice_index l.initial.residues q + sum_by (sum_at q) (take l.part-index l.parts)) % modulus_at l.problem.moduli q;
+      → slice_index l.residues q
+      ≡ (slice_index l.initial.residues q + sum_by (sum_at q) (take l.part-index l.parts)) % modulus_at l.problem.moduli q;
   reduced : AreReduced (view l.problem) l.residues;
   rest : (q : ℕ) → places_of (view l.problem) ≤ q → slice_index l.residues q ≡ slice_index l.initial.residues q;
 }

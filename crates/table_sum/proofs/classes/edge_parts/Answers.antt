@@ -20,7 +20,8 @@ class_edge-requires-clause-seat c = c.loop-edge.invariant.seat.seat
 pub class_edge-requires-clause-key : goal.class_edge-requires-clause-key
 class_edge-requires-clause-key c =
     let s = c.args.parts.now.shape in
-    class_edge_key (parameters_of c.args.column.now.table.now) s (get_or c.edges-edges.result.now c.loop-edge.edge-index (coloured_edge 0 0 0)) c.args.index c.requires.shape
+    class_edge_key (parameters_of c.args.column.now.table.now) s
+    (get_or c.edges-edges.result.now c.loop-edge.edge-index (coloured_edge 0 0 0)) c.args.index c.requires.shape
     (All-get_or (IsEdgeOf s) c.edges-edges.result.now c.loop-edge.edge-index (coloured_edge 0 0 0) c.loop-edge-test.true c.edges-edges.ensures.each)
     c.requires.index_within c.requires.class
 
@@ -36,7 +37,8 @@ loop-edge-preserved c =
     let p = parameters_of column.table.now in
     record {
       seat = later_after _ _ _ _ c.loop-edge.invariant.seat c.class_edge.ensures.seat;
-      value = rw (product-more (of_edge (class_edge p.setup (class_at p c.args.index))) c.edges-edges.result.now c.loop-edge.edge-index (coloured_edge 0 0 0) c.loop-edge-test.true)
+      value =
+          rw (product-more (of_edge (class_edge p.setup (class_at p c.args.index))) c.edges-edges.result.now c.loop-edge.edge-index (coloured_edge 0 0 0) c.loop-edge-test.true)
           (residue_times column.above c.loop-edge.invariant.value c.in_ok-part.ensures.value c.mul-product.ensures.value);
     }
 

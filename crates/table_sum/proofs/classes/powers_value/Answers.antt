@@ -27,7 +27,9 @@ class_value-requires-clause-seat c = c.loop-power.invariant.seat.seat
 
 pub class_value-requires-clause-index_within : goal.class_value-requires-clause-index_within
 class_value-requires-clause-index_within c =
-    let within = power_within (parameters_of c.args.column.now.table.now).classes c.args.first c.loop-power.power-index c.args.powers.now c.requires.indices c.loop-power-test.true in
+    let within =
+    power_within
+    (parameters_of c.args.column.now.table.now).classes c.args.first c.loop-power.power-index c.args.powers.now c.requires.indices c.loop-power-test.true in
     let index = c.loop-power.invariant.index in
     omega (arith, within, index)
 
@@ -58,5 +60,6 @@ pub returns-clause-value : goal.returns-clause-value
 returns-clause-value c =
     let column = c.args.column.now in
     let past = c.loop-power-test.false in
-    subst (λ ps. IsResidue column.modulus.now (value_of_powers (parameters_of column.table.now).setup c.args.parts.now.tree ps) c.loop-power.product)
+    subst
+    (λ ps. IsResidue column.modulus.now (value_of_powers (parameters_of column.table.now).setup c.args.parts.now.tree ps) c.loop-power.product)
     (take_all c.loop-power.power-index c.args.powers.now (omega (arith, past))) c.loop-power.invariant.value

@@ -14,7 +14,9 @@ returns-clause-value c =
     let ws = (parameters_of column.table.now).setup in
     let number = c.args.term.now.coefficient in
     let as_read : to_z w64 (of_z w64 number) ≡ number = omega (arith, ints) in
-    let coefficient = IsResidue-whole number (subst (λ z. Leaves column.modulus.now z c.of_i64-coefficient.result) as_read c.of_i64-coefficient.ensures) in
+    let coefficient =
+    IsResidue-whole number
+    (subst (λ z. Leaves column.modulus.now z c.of_i64-coefficient.result) as_read c.of_i64-coefficient.ensures) in
     residue_times column.above coefficient
     (subst (λ ps. IsResidue column.modulus.now (value_of_powers ws c.args.parts.now.tree ps) c.in_ok-powers.powers) c.as_slice.ensures c.in_ok-powers.ensures.value)
     c.mul.ensures.value

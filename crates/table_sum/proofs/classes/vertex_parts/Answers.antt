@@ -28,7 +28,9 @@ loop-vertex-preserved c =
     let p = parameters_of column.table.now in
     let class = class_at p c.args.index in
     let valence = sym (length-ends_of c.ends_at.result.now) ∙ ap length c.ends_at.ensures.value in
-    let part = subst (λ f. IsResidue column.modulus.now f c.in_ok-part.part) (ap₂ (class_vertex p.setup class) c.colour.ensures.value valence) c.in_ok-part.ensures.value in
+    let part =
+    subst (λ f. IsResidue column.modulus.now f c.in_ok-part.part)
+    (ap₂ (class_vertex p.setup class) c.colour.ensures.value valence) c.in_ok-part.ensures.value in
     record {
       seat = later_after _ _ _ _ c.loop-vertex.invariant.seat c.class_vertex.ensures.seat;
       value = rw (product-vertex (class_at_vertex p.setup class c.args.parts.now.tree) c.loop-vertex.vertex)
@@ -43,5 +45,6 @@ returns-clause-value c =
     let end = c.vertices-vertex-end.ensures.value in
     let past = c.loop-vertex-test.false in
     let all : c.loop-vertex.vertex ≡ g.vertices = omega (arith, end, past) in
-    subst (λ n. IsResidue column.modulus.now (product_of_fractions (map (class_at_vertex p.setup (class_at p c.args.index) g) (below n))) c.loop-vertex.product)
+    subst
+    (λ n. IsResidue column.modulus.now (product_of_fractions (map (class_at_vertex p.setup (class_at p c.args.index) g) (below n))) c.loop-vertex.product)
     all c.loop-vertex.invariant.value

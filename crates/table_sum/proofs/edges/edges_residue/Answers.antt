@@ -17,7 +17,8 @@ use Rattle.table_sum.proofs.edges.edges_residue.Goals as goal
 pub edge-factor-requires-clause-key : goal.edge-factor-requires-clause-key
 edge-factor-requires-clause-key c =
     let s = c.args.parts.now.shape in
-    edge_key (parameters_of c.args.column.now.table.now) s (get_or c.edges-edges.result.now c.loop-edge.edge-index (coloured_edge 0 0 0)) c.requires.shape
+    edge_key (parameters_of c.args.column.now.table.now) s
+    (get_or c.edges-edges.result.now c.loop-edge.edge-index (coloured_edge 0 0 0)) c.requires.shape
     (All-get_or (IsEdgeOf s) c.edges-edges.result.now c.loop-edge.edge-index (coloured_edge 0 0 0) c.loop-edge-test.true c.edges-edges.ensures.each)
 
 pub loop-edge-init : goal.loop-edge-init
@@ -37,7 +38,8 @@ loop-edge-preserved c =
       seat = later_after _ _ _ _ c.loop-edge.invariant.seat c.edge-factor.ensures.seat;
       value = rw (product-more (of_edge (edge_fraction ws)) es i (coloured_edge 0 0 0) c.loop-edge-test.true)
           (c.times-product.ensures _ _ c.loop-edge.invariant.value c.edge-factor.ensures.value);
-      edges = one_more column.table.now _ _ column.index es i (coloured_edge 0 0 0) c.loop-edge-test.true c.edge-factor.ensures.seat c.loop-edge.invariant.edges c.edge-factor.ensures.knows;
+      edges = one_more column.table.now _ _ column.index es i
+          (coloured_edge 0 0 0) c.loop-edge-test.true c.edge-factor.ensures.seat c.loop-edge.invariant.edges c.edge-factor.ensures.knows;
     }
 
 pub returns-clause-value : goal.returns-clause-value

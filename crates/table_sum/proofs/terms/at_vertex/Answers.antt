@@ -25,9 +25,12 @@ returns-clause-value c =
     let ws = (parameters_of column.table.now).setup in
     let g = c.args.parts.now.tree in
     let v = c.args.vertex in
-    let at_marks = c.as_slice.ensures.value ∙ c.exponents_of-exponents.ensures ∙ ap (map (exponent_of c.args.term.now)) c.marks_at.ensures.value in
+    let at_marks =
+    c.as_slice.ensures.value ∙ c.exponents_of-exponents.ensures ∙ ap
+    (map (exponent_of c.args.term.now)) c.marks_at.ensures.value in
     let at_colour = subst (λ k. MayGive column.modulus.now (vertex_fraction ws k (ends_of c.ends_at-ends.result.now) c.as_slice.result.now) c.vertex_residue.result)
     c.colour-colour.ensures.value c.vertex_residue.ensures.value in
     let at_ends = subst (λ es. MayGive column.modulus.now (vertex_fraction ws (colour_of g v) es c.as_slice.result.now) c.vertex_residue.result)
     c.ends_at-ends.ensures.value at_colour in
-    subst (λ ks. MayGive column.modulus.now (vertex_fraction ws (colour_of g v) (ends_at g v) ks) c.vertex_residue.result) at_marks at_ends
+    subst
+    (λ ks. MayGive column.modulus.now (vertex_fraction ws (colour_of g v) (ends_at g v) ks) c.vertex_residue.result) at_marks at_ends

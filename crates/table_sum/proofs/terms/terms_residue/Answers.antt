@@ -28,7 +28,8 @@ term_value-requires-clause-classes c =
 pub term_value-requires-clause-indices : goal.term_value-requires-clause-indices
 term_value-requires-clause-indices c =
     let classes = (parameters_of c.args.column.now.table.now).classes in
-    let item = of_item classes_of_term classes c.args.first c.loop-term.term-index c.args.terms.now c.term-item.result c.requires.indices c.loop-term-test.true in
+    let item =
+    of_item classes_of_term classes c.args.first c.loop-term.term-index c.args.terms.now c.term-item.result c.requires.indices c.loop-term-test.true in
     subst (λ n. AreClassesFrom classes n (classes_of_term c.term-item.result)) (sym c.loop-term.invariant.index)
     (subst (λ t. AreClassesFrom classes (c.args.first + length (classes_of_terms (take c.loop-term.term-index c.args.terms.now))) (classes_of_term t)) (sym c.term-item.is) item)
 
@@ -49,9 +50,12 @@ loop-term-preserved c =
     let below = c.loop-term-test.true in
     let index = c.loop-term.invariant.index in
     let long = length-map c.term-item.result.classes (λ (q : Power). q.class) in
-    let next = length-next classes_of_term ts i (length c.term-item.result.classes) c.term-item.result below c.term-item.is (sym long) in
+    let next =
+    length-next classes_of_term ts i (length c.term-item.result.classes) c.term-item.result below c.term-item.is
+    (sym long) in
     record {
-      seat = later_after _ _ _ _ c.loop-term.invariant.seat (later_after _ _ _ _ c.vertices_residue.ensures.seat c.term_value.ensures.seat);
+      seat = later_after _ _ _ _ c.loop-term.invariant.seat
+          (later_after _ _ _ _ c.vertices_residue.ensures.seat c.term_value.ensures.seat);
       index = let count = c.len.ensures in omega (arith, index, next, count);
       value = rw (terms-more ws g ts i c.term-item.result below c.term-item.is)
           (residue_plus column.above c.loop-term.invariant.value
@@ -62,18 +66,23 @@ pub returns-clause-value : goal.returns-clause-value
 returns-clause-value c =
     let column = c.args.column.now in
     let past = c.loop-term-test.false in
-    subst (λ ts. IsResidue column.modulus.now (sum_of_terms (parameters_of column.table.now).setup c.args.parts.now.tree ts) c.loop-term.sum)
+    subst
+    (λ ts. IsResidue column.modulus.now (sum_of_terms (parameters_of column.table.now).setup c.args.parts.now.tree ts) c.loop-term.sum)
     (take_all c.loop-term.term-index c.args.terms.now (omega (arith, past))) c.loop-term.invariant.value
 
 pub returns-in_err-value-clause-seat : goal.returns-in_err-value-clause-seat
-returns-in_err-value-clause-seat c = later_after _ _ _ _ c.loop-term.invariant.seat (later_after _ _ _ _ c.vertices_residue.ensures.seat c.term_value.ensures.seat)
+returns-in_err-value-clause-seat c =
+    later_after _ _ _ _ c.loop-term.invariant.seat
+    (later_after _ _ _ _ c.vertices_residue.ensures.seat c.term_value.ensures.seat)
 
 pub overflow_cast-index : goal.overflow_cast-index
 overflow_cast-index c =
     let column = c.args.column.now in
     let few = column.few_classes in
     let count = c.len.ensures in
-    let within = item_within (parameters_of column.table.now).classes c.args.first c.loop-term.term-index c.args.terms.now c.term-item.result c.requires.indices c.loop-term-test.true c.term-item.is in
+    let within =
+    item_within
+    (parameters_of column.table.now).classes c.args.first c.loop-term.term-index c.args.terms.now c.term-item.result c.requires.indices c.loop-term-test.true c.term-item.is in
     omega (arith, few, count, within)
 
 pub overflow_add-index : goal.overflow_add-index
@@ -82,5 +91,7 @@ overflow_add-index c =
     let few = column.few_classes in
     let count = c.len.ensures in
     let index = c.loop-term.invariant.index in
-    let within = item_within (parameters_of column.table.now).classes c.args.first c.loop-term.term-index c.args.terms.now c.term-item.result c.requires.indices c.loop-term-test.true c.term-item.is in
+    let within =
+    item_within
+    (parameters_of column.table.now).classes c.args.first c.loop-term.term-index c.args.terms.now c.term-item.result c.requires.indices c.loop-term-test.true c.term-item.is in
     omega (arith, few, count, index, within)

@@ -38,5 +38,6 @@ returns-clause-value c =
     let end = c.vertices-vertex-end.ensures.value in
     let past = c.loop-vertex-test.false in
     let all : c.loop-vertex.vertex ≡ g.vertices = omega (arith, end, past) in
-    subst (λ n. IsResidue column.modulus.now (product_of_fractions (map (vertex_at ws c.args.term.now g) (below n))) c.loop-vertex.product)
+    subst
+    (λ n. IsResidue column.modulus.now (product_of_fractions (map (vertex_at ws c.args.term.now g) (below n))) c.loop-vertex.product)
     all c.loop-vertex.invariant.value

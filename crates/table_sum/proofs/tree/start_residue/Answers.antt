@@ -10,6 +10,10 @@ returns-clause-value c =
     let column = c.args.column.now in
     let p = parameters_of column.table.now in
     let at_index = (c.in_ok-numbering.ensures p.moduli column.within c.requires.numberings).value in
-    let at_modulus = subst (λ m. IsResidue m (one_numbering c.vertices.result) c.in_ok-numbering.numbering) (sym column.is_modulus) at_index in
-    let numbering = subst (λ n. IsResidue column.modulus.now (one_numbering n) c.in_ok-numbering.numbering) c.vertices.ensures.value at_modulus in
+    let at_modulus =
+    subst (λ m. IsResidue m (one_numbering c.vertices.result) c.in_ok-numbering.numbering)
+    (sym column.is_modulus) at_index in
+    let numbering =
+    subst
+    (λ n. IsResidue column.modulus.now (one_numbering n) c.in_ok-numbering.numbering) c.vertices.ensures.value at_modulus in
     residue_times column.above numbering c.in_ok-edges.ensures.value c.mul.ensures.value

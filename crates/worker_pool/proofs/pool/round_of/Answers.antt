@@ -65,7 +65,8 @@ returns-clause-worked g c =
     λ q x. IsLegal q c.close-owners.result.owners (map (λ s. (g.C.Claimer.record_of s).taken) x) in
     let Seen : List g.row.C.Denot → Type 0 =
     λ x. All (λ s. All (λ n. c.close-owners.result.least_bad ≤ n) (g.C.Claimer.record_of s).seens) x in
-    let legal = subst (λ q. Legal q new) start.board (subst (Legal (g.C.Claimer.plan_of c.in_ok-board.board)) is closed.legal) in
+    let legal =
+    subst (λ q. Legal q new) start.board (subst (Legal (g.C.Claimer.plan_of c.in_ok-board.board)) is closed.legal) in
     round bad stands g.C.Claimer.record_of items new c.args.parts.now c.run_all.new.parts start.seats
     c.requires.parts.0 start.fresh same c.run_all.auto.parts (subst Loops slice.value c.run_all.ensures.loops)
     p result.owners result.least_bad refl legal (subst Seen is closed.seen)
@@ -91,7 +92,8 @@ returns-clause-least g c =
     λ x. All (λ s. All (λ n. c.close-owners.result.least_bad ≤ n) (g.C.Claimer.record_of s).seens) x in
     let Least : List g.row.C.Denot → Type 0 =
     λ x. c.close-owners.result.least_bad ≡ least_of (all_reported (map g.C.Claimer.record_of x)) in
-    let legal = subst (λ q. Legal q new) start.board (subst (Legal (g.C.Claimer.plan_of c.in_ok-board.board)) is closed.legal) in
+    let legal =
+    subst (λ q. Legal q new) start.board (subst (Legal (g.C.Claimer.plan_of c.in_ok-board.board)) is closed.legal) in
     let job = g.met.J.Job g.world.𝓛 g.world.𝓜 g.world.𝓡 ((λ s x. x), (λ x. x), (λ x. x), λ x. x) in
     least_bad_is bad stands g.C.Claimer.record_of items new c.args.parts.now c.run_all.new.parts start.seats
     c.requires.parts.0 start.fresh same c.run_all.auto.parts (subst Loops slice.value c.run_all.ensures.loops)

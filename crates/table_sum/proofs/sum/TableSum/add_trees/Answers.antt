@@ -55,13 +55,15 @@ loop-k-preserved c =
       below = added.ensures.below;
       added = λ every.
           let sure = sym c.both-every.ensures ∙ every in
-          one_tree_more p c.args.first k (tree_view c.loop-k.tree) c.args.sums.now c.loop-k.sums added.new.sums from value
+          one_tree_more p c.args.first k
+          (tree_view c.loop-k.tree) c.args.sums.now c.loop-k.sums added.new.sums from value
           (c.loop-k.invariant.added (both_first _ _ sure))
           (from_ok added.result (GrowBy p (λ terms. contribution p.setup terms (tree_view c.loop-k.tree)) c.loop-k.sums added.new.sums)
           (sym c.is_ok.ensures.value ∙ both_second _ _ sure) added.ensures.added);
       rest = λ place h. added.ensures.rest place h ∙ c.loop-k.invariant.rest place h;
       seat = later_after _ _ _ _ c.loop-k.invariant.seat added.ensures.seat;
-      edges = trees_next (view p) s.table.now _ _ (tree_view c.loop-k.tree) c.args.first k added.ensures.seat value c.loop-k.invariant.edges added.ensures.edges;
+      edges = trees_next (view p) s.table.now _ _
+          (tree_view c.loop-k.tree) c.args.first k added.ensures.seat value c.loop-k.invariant.edges added.ensures.edges;
     }
 
 pub returns-then-every-clause-added : goal.returns-then-every-clause-added
@@ -70,4 +72,5 @@ returns-then-every-clause-added c =
     let order = c.requires.order in
     let past = c.loop-k-test.false in
     let all : c.loop-k.k ≡ c.args.stop = omega arith in
-    subst (λ n. GrowBy p (partial_sum p.setup p.shape c.args.first n) c.args.sums.now c.loop-k.sums) all (c.loop-k.invariant.added c.if-every.true)
+    subst (λ n. GrowBy p (partial_sum p.setup p.shape c.args.first n) c.args.sums.now c.loop-k.sums) all
+    (c.loop-k.invariant.added c.if-every.true)

@@ -17,8 +17,10 @@ invariant-loop-k l = record {
   marks : l.tree.m ≡ l.self.problem.now.shape.marks;
   padded : IsTrue (is_padded l.tree);
   below : AreBelow l.self.problem.now l.sums;
-  added : l.every ≡ true → (GrowBy l.self.problem.now (partial_sum l.self.problem.now.setup l.self.problem.now.shape l.first l.k) l.fn.sums l.sums);
-  rest : (place : ℕ) → places_of (view l.self.problem.now) ≤ place → slice_index l.sums place ≡ slice_index l.fn.sums place;
+  added : l.every ≡ true
+      → (GrowBy l.self.problem.now (partial_sum l.self.problem.now.setup l.self.problem.now.shape l.first l.k) l.fn.sums l.sums);
+  rest : (place : ℕ) → places_of (view l.self.problem.now) ≤ place
+      → slice_index l.sums place ≡ slice_index l.fn.sums place;
   seat : IsLater l.self.table.now l.fn.seat l.seat;
   edges : KnowsTrees (view l.self.problem.now) l.self.table.now l.seat l.first l.k;
 }

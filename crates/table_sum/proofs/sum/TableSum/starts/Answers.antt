@@ -19,7 +19,10 @@ loop-modulus-preserved c =
     record {
       size = length-set c.loop-modulus.starts i _ ∙ size;
       seat = later_after _ _ _ _ c.loop-modulus.invariant.seat c.start.ensures.seat;
-      each = added_next (λ q old new. MayGive (slice_index p.moduli q) (tree_start p.setup g) new) c.loop-modulus.starts c.loop-modulus.starts (Ok 0) c.start.result i
+      each =
+          added_next
+          (λ q old new. MayGive (slice_index p.moduli q) (tree_start p.setup g) new) c.loop-modulus.starts c.loop-modulus.starts
+          (Ok 0) c.start.result i
           (omega (arith, size, most, end, below)) c.loop-modulus.invariant.each refl c.start.ensures.value;
       edges = below_next (KnowsEdges c.start.new.seat s.table.now g) i
           (λ k h. edges_later s.table.now c.loop-modulus.seat c.start.new.seat g k c.start.ensures.seat (c.loop-modulus.invariant.edges k h)) c.start.ensures.edges;

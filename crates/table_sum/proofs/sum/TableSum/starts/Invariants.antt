@@ -8,6 +8,7 @@ abbrev pub invariant-loop-modulus : goal.invariant-loop-modulus
 invariant-loop-modulus l = record {
   size : length l.starts ≡ 8;
   seat : IsLater l.self.table.now l.fn.seat l.seat;
-  each : (k : ℕ) → k < l.modulus → MayGive (slice_index l.self.problem.now.moduli k) (tree_start l.self.problem.now.setup l.parts.tree) (answer_at l.starts k);
+  each : (k : ℕ) → k < l.modulus
+      → MayGive (slice_index l.self.problem.now.moduli k) (tree_start l.self.problem.now.setup l.parts.tree) (answer_at l.starts k);
   edges : (k : ℕ) → k < l.modulus → KnowsEdges l.seat l.self.table.now l.parts.tree k;
 }

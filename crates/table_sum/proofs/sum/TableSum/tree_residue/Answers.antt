@@ -19,7 +19,8 @@ overflow_add-first c =
     let test = c.loop-earlier-test.true in
     let within = c.requires.integral in
     let own = count_within p c.loop-earlier.earlier c.get.result.now (omega (arith, test, within)) c.get.ensures in
-    let same : length (classes_of_terms c.as_slice.result.now) ≡ length (classes_of_terms c.get.result.now) = ap (λ ts. length (classes_of_terms ts)) c.as_slice.ensures in
+    let same : length (classes_of_terms c.as_slice.result.now) ≡ length (classes_of_terms c.get.result.now) =
+    ap (λ ts. length (classes_of_terms ts)) c.as_slice.ensures in
     let count = c.class_count-first.ensures in
     let before = c.loop-earlier.invariant in
     omega (arith, own, same, count, before)
@@ -31,7 +32,8 @@ loop-earlier-preserved c =
     let terms = c.get.result.now in
     let test = c.loop-earlier-test.true in
     let within = c.requires.integral in
-    let same : length (classes_of_terms c.as_slice.result.now) ≡ length (classes_of_terms terms) = ap (λ ts. length (classes_of_terms ts)) c.as_slice.ensures in
+    let same : length (classes_of_terms c.as_slice.result.now) ≡ length (classes_of_terms terms) =
+    ap (λ ts. length (classes_of_terms ts)) c.as_slice.ensures in
     let next = length-next classes_of_terms p.integrals i c.class_count-first.result terms (omega (arith, test, within))
     (sym (get_or_from_slice_get p.integrals i terms terms c.get.ensures)) (c.class_count-first.ensures ∙ same) in
     let before = c.loop-earlier.invariant in

@@ -14,12 +14,15 @@ use Rattle.sum_job.proofs.JobLaws.{none_of_block, least_of_block}
 use Rattle.sum_job.proofs.PartLaws.{passed_over, noted, added, answer_above, at_same}
 use Rattle.sum_job.proofs.job.work.LocusJobJob.work.Goals as goal
 
-above : (job : JobView) (start seen block : ℕ) → start ≡ block_start job block → seen < start → seen < block_start job block
+above : (job : JobView) (start seen block : ℕ) → start ≡ block_start job block → seen < start
+    → seen < block_start job block
 above job start seen block e lt = subst (λ n. seen < n) e lt
 
-ordered : (job : JobView) (start stop block : ℕ) → start ≡ block_start job block → stop ≡ block_stop job block → start < stop
+ordered : (job : JobView) (start stop block : ℕ) → start ≡ block_start job block → stop ≡ block_stop job block
+    → start < stop
     → block_start job block ≤ block_stop job block
-ordered job start stop block e f lt = let less = at_same (λ a b. a < b) start stop (block_start job block) (block_stop job block) e f lt in omega arith
+ordered job start stop block e f lt =
+    let less = at_same (λ a b. a < b) start stop (block_start job block) (block_stop job block) e f lt in omega arith
 
 pub returns-then-start-seen-clause-stands : goal.returns-then-start-seen-clause-stands
 returns-then-start-seen-clause-stands c =
@@ -36,22 +39,26 @@ returns-then-start-seen-clause-answer c =
     sym (answer_above job c.args.block.number c.args.seen
     (above job c.bounds-start.result.0 c.args.seen c.args.block.number c.bounds-start.ensures.start c.if-start-seen.true))
 
-told_least : (job : JobView) (start stop block k : ℕ) → start ≡ block_start job block → stop ≡ block_stop job block → start < stop
+told_least : (job : JobView) (start stop block k : ℕ) → start ≡ block_start job block → stop ≡ block_stop job block
+    → start < stop
     → IsLeastBad (is_bad_of job.problem) start stop k → least_bad_of job block ≡ Some k
 told_least job start stop block k e f lt h =
     least_of_block job block k (ordered job start stop block e f lt)
     (at_same (λ a b. IsLeastBad (is_bad_of job.problem) a b k) start stop (block_start job block) (block_stop job block) e f h)
 
-told_none : (job : JobView) (start stop block : ℕ) → start ≡ block_start job block → stop ≡ block_stop job block → start < stop
+told_none : (job : JobView) (start stop block : ℕ) → start ≡ block_start job block → stop ≡ block_stop job block
+    → start < stop
     → NoneBad (is_bad_of job.problem) start stop → least_bad_of job block ≡ None
 told_none job start stop block e f lt h =
     none_of_block job block (ordered job start stop block e f lt)
     (at_same (λ a b. NoneBad (is_bad_of job.problem) a b) start stop (block_start job block) (block_stop job block) e f h)
 
 -- the edges of a block's trees
-known : (job : JobView) (seat : FactorSeat) (start stop block : ℕ) → start ≡ block_start job block → stop ≡ block_stop job block
+known : (job : JobView) (seat : FactorSeat) (start stop block : ℕ) → start ≡ block_start job block
+    → stop ≡ block_stop job block
     → KnowsTrees job.problem job.table seat start stop → KnowsBlock job seat block
-known job seat start stop block e f h = at_same (KnowsTrees job.problem job.table seat) start stop (block_start job block) (block_stop job block) e f h
+known job seat start stop block e f h =
+    at_same (KnowsTrees job.problem job.table seat) start stop (block_start job block) (block_stop job block) e f h
 
 pub returns-in-Some-clause-stands : goal.returns-in-Some-clause-stands
 returns-in-Some-clause-stands c =
@@ -78,7 +85,9 @@ returns-in-None-clause-stands c =
     let job = view c.args.self.now in
     let b = c.bounds-start in
     let p = job.problem in
-    let none = told_none job b.result.0 b.result.1 c.args.block.number b.ensures.start b.ensures.stop b.ensures.order (c.in-None.ensures.none refl) in
+    let none =
+    told_none job b.result.0 b.result.1 c.args.block.number b.ensures.start b.ensures.stop b.ensures.order
+    (c.in-None.ensures.none refl) in
     added job c.args.part.now c.add_block.new.part c.args.block.number c.args.seen c.args.self.now.sum.now.problem.now.rules c.add_block.ensures.ready.places none
     (at_same (λ x y. IsAdded p x y c.args.part.now c.add_block.new.part) b.result.0 b.result.1 (block_start job c.args.block.number)
     (block_stop job c.args.block.number) b.ensures.start b.ensures.stop (c.in-None.ensures.added refl))
