@@ -11,7 +11,7 @@ use Rattle.arithmetic.proofs.Residues.{gcd-reduce, residue_equation}
 use Rattle.recover_fraction.specs.declared.recovery.Fraction.{Fraction}
 use Rattle.report.specs.Fractions.{IsInLowestTerms}
 
--- with the bottom d of a fraction n / d, a unit, and its residue x: b x leaves what a leaves, where a d = n b
+-- with the bottom d of a fraction n / d, a unit, and its residue x: b x leaves what a leaves, if a d = n b
 crossed : (m x n d a b : ℕ) → 0 < m → gcd d m ≡ 1 → (x * d) % m ≡ n % m → (a * d) % m ≡ (n * b) % m → Same m (b * x) a
 crossed m x n d a b h unit e f =
     cancel_unit m d (b * x) a h unit

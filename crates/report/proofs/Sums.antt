@@ -1,4 +1,4 @@
--- The fraction that is found for an integral is its sum, where that lies within the bounds.
+-- The fraction that is found for an integral is its sum, if that lies within the bounds.
 use Rattle.std.proofs.Common.{ℕ, ◌+◌, ◌*◌, ◌<◌, List, [], length, slice_index, get_or, Option, sym, subst}
 use Rattle.arithmetic.specs.Fractions.{IsResidue}
 use Rattle.localisation.specs.Agreement.{modulus_at, integral_at}

@@ -18,8 +18,8 @@ pub record AreReduced (p : ProblemView) (residues : List ℕ) : Type 0 where
 abbrev pub residues_of : ProblemView → List ℕ → ℕ → List ℕ
 residues_of p residues i = take (length p.moduli) (drop (i * length p.moduli) residues)
 
--- A fraction agrees with the residues within the bounds exactly where it is the one that is found. So the one that is
--- found agrees, no other does, and none is found exactly where none agrees.
+-- A fraction agrees with the residues within the bounds exactly if it is the one that is found. So the one that is
+-- found agrees, no other does, and none is found exactly if none agrees.
 abbrev pub IsOnlyFraction : List ℕ → List ℕ → ℕ → ℕ → Option Fraction → Type 0
 IsOnlyFraction ms xs a b found = (f : Fraction) → Agrees ms xs a b f.top f.bottom ↔ (found ≡ Some f)
 
@@ -35,7 +35,7 @@ pub record IsInLowestTerms (s : unreduced.Fraction) (f : Fraction) : Type 0 wher
   pub lowest : gcd (nat_abs f.top) f.bottom ≡ 1
   pub equal : f.top *ℤ s.bottom ≡ s.top *ℤ pos f.bottom
 
--- where the sum of an integral in lowest terms lies within the bounds, it is the fraction that is found
+-- if the sum of an integral in lowest terms lies within the bounds, it is the fraction that is found
 abbrev pub FindSums : ProblemView → List (Option Fraction) → Type 0
 FindSums p found = (i : ℕ) → i < length p.integrals → (f : Fraction)
     → IsInLowestTerms (kontsevich_sum p.weights p.shape (get_or p.integrals i [])) f

@@ -7,7 +7,7 @@ use Rattle.report.specs.Outcome.{IsDone, IsNoInverse}
 use Rattle.report.specs.Fractions.{AreFractions}
 use Rattle.report.specs.Texts.{done_text, no_inverse_text}
 
--- 0 where each integral has a fraction, else 1
+-- 0 if each integral has a fraction, else 1
 abbrev pub done_status : List (Option Fraction) → ℕ
 done_status found = if list_all is_some found then 0 else 1
 

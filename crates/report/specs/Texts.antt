@@ -12,7 +12,7 @@ use Rattle.report.specs.Fractions.{residues_of}
 abbrev pub number_line : List ℕ → ℕ → List ℕ
 number_line word n = word ++ codes " " ++ decimal n ++ codes "\n"
 
--- `integral <i>`, which stands exactly where there are two or more integrals
+-- `integral <i>`, which is printed exactly if there are two or more integrals
 abbrev pub integral_line : ℕ → ℕ → List ℕ
 integral_line count i = if nat_lt 1 count then number_line (codes "integral") i else []
 
@@ -26,7 +26,7 @@ residue_lines [] xs = []
 residue_lines (m ∷ ms) [] = []
 residue_lines (m ∷ ms) (x ∷ xs) = residue_line m x ++ residue_lines ms xs
 
--- `fraction <top>/<bottom>`, with a leading `-` where the top is below 0, or `fraction none`
+-- `fraction <top>/<bottom>`, with a leading `-` if the top is below 0, or `fraction none`
 abbrev pub fraction_line : Option Fraction → List ℕ
 fraction_line (Some f) = codes "fraction " ++ signed_decimal f.top ++ codes "/" ++ decimal f.bottom ++ codes "\n"
 fraction_line None = codes "fraction none\n"

@@ -10,7 +10,7 @@ use recover_fraction::{Fraction, agreeing_fraction};
 use residue::NoMemory;
 use std::alloc::Global;
 
-/// The fraction of each integral, or `None` where no fraction agrees with its residues.
+/// The fraction of each integral, or `None` if no fraction agrees with its residues.
 pub(crate) fn fractions(
     alloc: Global,
     problem: &Problem,

@@ -19,7 +19,7 @@ use std::alloc::Global;
 /// The status of a sum, and the text that is printed of it.
 #[derive(Drop)]
 pub struct Report {
-    /// 0 where each integral has its fraction, 1 where some integral has none, 4 where some tree has no inverse.
+    /// 0 if each integral has its fraction, 1 if some integral has none, 4 if some tree has no inverse.
     pub status: u8,
     /// The whole text, with the line feed of its last line.
     pub text: Vec<u8>,
@@ -86,7 +86,7 @@ fn no_inverse_lines(
     Ok(text)
 }
 
-/// 0 where each integral has its fraction, else 1.
+/// 0 if each integral has its fraction, else 1.
 fn status(fractions: &[Option<Fraction>]) -> u8
     ensures { result ≡ done_status fractions.now }
 {

@@ -67,7 +67,7 @@ fn append_integral(
     append_fraction(text, fraction)
 }
 
-/// Appends the line that names an integral, where there are two or more.
+/// Appends the line that names an integral, if there are two or more.
 fn append_integral_line(text: &mut Vec<u8>, count: usize, integral: usize) -> Result<(), NoMemory>
     ensures { OnOk result (text.new.items ≡ text.old.items ++ integral_line count integral) }
 {
