@@ -7,4 +7,5 @@ pub mod EdgeLists
 pub mod ClassLaws
 pub mod ProblemLaws
 pub mod SumLaws
+pub mod Lacking
 pub mod Known

@@ -1,7 +1,7 @@
-use Rattle.std.proofs.Common.{ap, sym, subst, ◌∙◌, arith}
+use Rattle.std.proofs.Common.{ap, OnErr, sym, subst, ◌∙◌, arith}
 use Rattle.factor_table.specs.declared.table.FactorTable.{FactorTable}
 use Rattle.factor_table.specs.Seats.{parameters_of, IsSeatOf}
-use Rattle.table_sum.specs.Words.{MayGive, IsLater}
+use Rattle.table_sum.specs.Words.{MayGive, IsLater, LacksUnit}
 use Rattle.table_sum.specs.Trees.{IsShapeIn, KnowsEdges, tree_start}
 use Rattle.table_sum.specs.Numberings.{AreNumberings}
 use Rattle.table_sum.proofs.ProblemLaws.{table_shape, table_setup, table_moduli}
@@ -45,3 +45,9 @@ pub returns-clause-edges : goal.returns-clause-edges
 returns-clause-edges c =
     subst (KnowsEdges c.start_residue.new.seat c.args.self.now.table.now c.args.parts.now.tree) c.column-column.ensures.index
     (subst (λ t. KnowsEdges c.start_residue.new.seat t c.args.parts.now.tree c.column-column.result.index) c.column-column.ensures.table c.start_residue.ensures.edges)
+
+pub returns-clause-refused : goal.returns-clause-refused
+returns-clause-refused c =
+    subst (λ i. OnErr c.start_residue.result (LacksUnit (parameters_of c.args.self.now.table.now) i)) c.column-column.ensures.index
+    (subst (λ (t : FactorTable). OnErr c.start_residue.result (LacksUnit (parameters_of t) c.column-column.result.index)) c.column-column.ensures.table
+    c.start_residue.ensures.refused)
