@@ -70,7 +70,8 @@ tangent-is ws c s = ap (fraction (power (tangent_product ws c) (s - 1))) (power-
 -- the power at the ends, in whole numbers
 pub power_at_ends-is : (ws : List ℤ) (c : ℕ) (es : List End) (n : ℕ)
     → power_at_ends ws c es n
-    ≡ fraction (power (tangent_product ws c) (length es - 1) *ℤ product_of_degrees es *ℤ power (crossed_sum ws c es) n) (power (product_of_differences ws c es) (suc n))
+    ≡ fraction (power (tangent_product ws c) (length es - 1) *ℤ product_of_degrees es *ℤ power (crossed_sum ws c es) n)
+    (power (product_of_differences ws c es) (suc n))
 power_at_ends-is ws c es n =
     ap₂ times (ap₂ times (tangent-is ws c (length es)) (product-is ws c es))
     (ap (λ f. power_of_fraction f n) (sum-is ws c es))

@@ -7,3 +7,4 @@ pub mod EdgeLists
 pub mod ClassLaws
 pub mod ProblemLaws
 pub mod SumLaws
+pub mod Lacking

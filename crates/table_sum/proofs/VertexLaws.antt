@@ -54,7 +54,8 @@ unfolding plain_vertex
 leaf-is ws c u a = ap₂ fraction (turned (weight ws u) (weight ws c)) (one-*ℤ (pos a))
 
 psi_tip : (ws : List ℤ) (c : ℕ) (e : End) (k : ℕ)
-    → fraction (power (neg_ℤ (weight ws c -ℤ weight ws e.colour)) k) (power (pos e.degree) k) ≡ psi_vertex ws c (e ∷ []) (k ∷ [])
+    → fraction (power (neg_ℤ (weight ws c -ℤ weight ws e.colour)) k) (power (pos e.degree) k)
+    ≡ psi_vertex ws c (e ∷ []) (k ∷ [])
 unfolding psi_vertex
 psi_tip ws c e k = refl
 

@@ -16,7 +16,7 @@ impl TableSum<'_> {
     ghost use Rattle.problem.specs.Problems.{view as problem_view};
     ghost use Rattle.problem.specs.Sums.{count_of, places_of, is_bad_of};
     ghost use Rattle.factor_table.specs.Seats.{IsSeatOf};
-    ghost use Rattle.table_sum.specs.Words.{IsLater};
+    ghost use Rattle.table_sum.specs.Words.{IsLater, LacksSomeUnit};
     ghost use Rattle.table_sum.specs.Sums.{problem_of, table_of, AreBelow, GrowBy, KnowsTree, KnowsTrees};
 
     /// Adds the contributions of the trees of the numbers from `first` to `stop - 1` to the sums, which are integral by
@@ -24,8 +24,9 @@ impl TableSum<'_> {
     /// Afterwards the seat knows the words of all edges of these trees for each modulus, whatever the answer is.
     ///
     /// # Errors
-    /// `NoUnit` if a word that is asked for is no unit. The sums are as they were, and it is not known whether a number
-    /// is bad.
+    /// `NoUnit` if a word that is asked for is no unit, so only if for some modulus the fraction of a key of the table has
+    /// no residue, or one over `n!` for some number `n` of vertices. The sums are as they were, and it is not known
+    /// whether a number is bad.
     pub fn add_block(
         &self,
         seat: &mut FactorSeat,
@@ -44,6 +45,7 @@ impl TableSum<'_> {
             → slice_index sums.new place ≡ slice_index sums.old place) }
         ensures refused { OnErr result (sums.new ≡ sums.old) }
         ensures long { length sums.new ≡ 64 }
+        ensures cause { OnErr result (LacksSomeUnit (table_of self.now)) }
         ensures seat { IsLater (table_of self.now) seat.old seat.new }
         ensures edges { KnowsTrees (problem_view (problem_of self.now)) (table_of self.now) seat.new first stop }
     {
@@ -69,6 +71,7 @@ impl TableSum<'_> {
             (partial_sum (problem_of self.now).setup (problem_of self.now).shape first stop) sums.old sums.new) }
         ensures rest { (place : ℕ) → places_of (problem_view (problem_of self.now)) ≤ place
             → slice_index sums.new place ≡ slice_index sums.old place }
+        ensures cause { OnErr result (LacksSomeUnit (table_of self.now)) }
         ensures seat { IsLater (table_of self.now) seat.old seat.new }
         ensures edges { KnowsTrees (problem_view (problem_of self.now)) (table_of self.now) seat.new first stop }
     {
@@ -100,6 +103,7 @@ impl TableSum<'_> {
             (λ terms. contribution (problem_of self.now).setup terms (tree_view tree.now)) sums.old sums.new) }
         ensures rest { (place : ℕ) → places_of (problem_view (problem_of self.now)) ≤ place
             → slice_index sums.new place ≡ slice_index sums.old place }
+        ensures cause { OnErr result (LacksSomeUnit (table_of self.now)) }
         ensures seat { IsLater (table_of self.now) seat.old seat.new }
         ensures edges { KnowsTree (problem_view (problem_of self.now)) (table_of self.now) seat.new (tree_view tree.now) }
     {

@@ -1,6 +1,6 @@
 //! The values of classes and terms at a tree, from words of the table.
 
-ghost use Rattle.std.specs.Prelude.{◌≡◌, ◌+◌, ◌<◌, ◌≤◌, length, All};
+ghost use Rattle.std.specs.Prelude.{◌≡◌, ◌+◌, ◌<◌, ◌≤◌, length, All, OnErr};
 ghost use Rattle.arithmetic.specs.Fractions.{product_of_fractions};
 ghost use Rattle.localisation.specs.ClassValue.{class_edge, class_value, term_value, at_edges, at_vertices};
 ghost use Rattle.classes.specs.Classes.{IsClassFor, IsPowerFor};
@@ -8,7 +8,7 @@ ghost use Rattle.class_factor.specs.Powers.{value_of_powers};
 ghost use Rattle.class_factor.specs.Vertices.{class_at_vertex};
 ghost use Rattle.factor_table.specs.Factors.{HasParts, class_at};
 ghost use Rattle.factor_table.specs.Seats.{parameters_of, IsSeatOf};
-ghost use Rattle.table_sum.specs.Words.{MayGive, IsLater};
+ghost use Rattle.table_sum.specs.Words.{MayGive, IsLater, LacksUnit};
 ghost use Rattle.table_sum.specs.Trees.{IsShapeIn};
 ghost use Rattle.table_sum.specs.Classes.{classes_of_powers, classes_of_term, AreClassesFrom};
 
@@ -37,6 +37,7 @@ pub(crate) fn term_value(
     ensures value { MayGive column.now.modulus.now
         (term_value (parameters_of column.now.table.now).setup term.now parts.now.tree) result }
     ensures seat { IsLater column.now.table.now seat.old seat.new }
+    ensures refused { OnErr result (LacksUnit (parameters_of column.now.table.now) column.now.index) }
 {
     let powers = powers_value(column, seat, parts, term.classes.as_slice(), first)?;
     let number = term.coefficient;
@@ -59,6 +60,7 @@ fn powers_value(
     ensures value { MayGive column.now.modulus.now
         (value_of_powers (parameters_of column.now.table.now).setup parts.now.tree powers.now) result }
     ensures seat { IsLater column.now.table.now seat.old seat.new }
+    ensures refused { OnErr result (LacksUnit (parameters_of column.now.table.now) column.now.index) }
 {
     let mut product = column.modulus.of_u64(1);
     let mut index = first;
@@ -87,6 +89,7 @@ fn class_value(
     ensures value { MayGive column.now.modulus.now
         (class_value (parameters_of column.now.table.now).setup class.now parts.now.tree) result }
     ensures seat { IsLater column.now.table.now seat.old seat.new }
+    ensures refused { OnErr result (LacksUnit (parameters_of column.now.table.now) column.now.index) }
 {
     if has_parts(class) {
         let at_edges = edge_parts(column, seat, parts, index)?;
@@ -112,6 +115,7 @@ fn edge_parts(
         (parameters_of column.now.table.now).setup (class_at (parameters_of column.now.table.now) index))
         parts.now.tree)) result }
     ensures seat { IsLater column.now.table.now seat.old seat.new }
+    ensures refused { OnErr result (LacksUnit (parameters_of column.now.table.now) column.now.index) }
 {
     let mut product = column.modulus.of_u64(1);
     let edges = parts.edges();
@@ -137,6 +141,7 @@ fn vertex_parts(
         (parameters_of column.now.table.now).setup (class_at (parameters_of column.now.table.now) index)
         parts.now.tree) parts.now.tree)) result }
     ensures seat { IsLater column.now.table.now seat.old seat.new }
+    ensures refused { OnErr result (LacksUnit (parameters_of column.now.table.now) column.now.index) }
 {
     let mut product = column.modulus.of_u64(1);
     for vertex in 0..parts.vertices() {

@@ -42,7 +42,7 @@ impl<'a> Column<'a> {
 }
 
 impl Column<'_> {
-    ghost use Rattle.std.specs.Prelude.{◌≡◌, ℕ, ◌<◌, ◌≤◌, ◌∷◌, [], length, pos};
+    ghost use Rattle.std.specs.Prelude.{◌≡◌, ℕ, ◌<◌, ◌≤◌, ◌∷◌, [], length, pos, OnErr};
     ghost use Rattle.arithmetic.specs.Fractions.{fraction, IsResidue};
     ghost use Rattle.localisation.specs.Weights.{tangent_product};
     ghost use Rattle.localisation.specs.EdgeFraction.{edge_fraction};
@@ -52,7 +52,7 @@ impl Column<'_> {
     ghost use Rattle.factor_table.specs.declared.key.Key.{Key};
     ghost use Rattle.factor_table.specs.Factors.{class_at, tip_fraction, IsKeyOf};
     ghost use Rattle.factor_table.specs.Seats.{parameters_of, IsSeatOf, Knows};
-    ghost use Rattle.table_sum.specs.Words.{MayGive, IsLater};
+    ghost use Rattle.table_sum.specs.Words.{MayGive, IsLater, LacksUnit};
 
     /// The weights.
     #[inline]
@@ -70,6 +70,7 @@ impl Column<'_> {
         ensures value { MayGive self.now.modulus.now
             (edge_fraction (parameters_of self.now.table.now).setup i j a) result }
         ensures seat { IsLater self.now.table.now seat.old seat.new }
+        ensures refused { OnErr result (LacksUnit (parameters_of self.now.table.now) self.now.index) }
         ensures knows { Knows seat.new self.now.table.now (Key.Edge i j a) self.now.index }
     {
         self.table.edge(seat, i, j, a, self.index)
@@ -83,6 +84,7 @@ impl Column<'_> {
         ensures value { MayGive self.now.modulus.now
             (flag_fraction (parameters_of self.now.table.now).setup c u a) result }
         ensures seat { IsLater self.now.table.now seat.old seat.new }
+        ensures refused { OnErr result (LacksUnit (parameters_of self.now.table.now) self.now.index) }
     {
         self.table.flag(seat, c, u, a, self.index)
     }
@@ -95,6 +97,7 @@ impl Column<'_> {
         ensures value { MayGive self.now.modulus.now
             (tip_fraction (parameters_of self.now.table.now).setup c u a) result }
         ensures seat { IsLater self.now.table.now seat.old seat.new }
+        ensures refused { OnErr result (LacksUnit (parameters_of self.now.table.now) self.now.index) }
     {
         self.table.tip(seat, c, u, a, self.index)
     }
@@ -114,6 +117,7 @@ impl Column<'_> {
         ensures value { MayGive self.now.modulus.now (plain_vertex (parameters_of self.now.table.now).setup c
             (end first.0 first.1 ∷ end second.0 second.1 ∷ []) 0) result }
         ensures seat { IsLater self.now.table.now seat.old seat.new }
+        ensures refused { OnErr result (LacksUnit (parameters_of self.now.table.now) self.now.index) }
     {
         self.table
             .pair(seat, c, first.0, first.1, second.0, second.1, self.index)
@@ -134,6 +138,7 @@ impl Column<'_> {
         ensures value { MayGive self.now.modulus.now (class_edge (parameters_of self.now.table.now).setup
             (class_at (parameters_of self.now.table.now) class) i j a) result }
         ensures seat { IsLater self.now.table.now seat.old seat.new }
+        ensures refused { OnErr result (LacksUnit (parameters_of self.now.table.now) self.now.index) }
     {
         self.table.class_edge(seat, class, i, j, a, self.index)
     }
@@ -152,6 +157,7 @@ impl Column<'_> {
         ensures value { MayGive self.now.modulus.now (class_vertex (parameters_of self.now.table.now).setup
             (class_at (parameters_of self.now.table.now) class) c s) result }
         ensures seat { IsLater self.now.table.now seat.old seat.new }
+        ensures refused { OnErr result (LacksUnit (parameters_of self.now.table.now) self.now.index) }
     {
         self.table.class_vertex(seat, class, c, s, self.index)
     }

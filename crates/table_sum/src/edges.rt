@@ -1,10 +1,10 @@
 //! The factors of the edges of a tree, from words of the table.
 
-ghost use Rattle.std.specs.Prelude.{◌<◌, IfOk};
+ghost use Rattle.std.specs.Prelude.{◌<◌, IfOk, OnErr};
 ghost use Rattle.arithmetic.specs.Fractions.{Fraction, times};
 ghost use Rattle.localisation.specs.Contribution.{edge_factors};
 ghost use Rattle.factor_table.specs.Seats.{parameters_of, IsSeatOf};
-ghost use Rattle.table_sum.specs.Words.{MayGive, IsLater};
+ghost use Rattle.table_sum.specs.Words.{MayGive, IsLater, LacksUnit};
 ghost use Rattle.table_sum.specs.Trees.{IsShapeIn, KnowsEdges};
 
 use crate::column::Column;
@@ -27,6 +27,7 @@ pub(crate) fn edges_residue(
     ensures value { MayGive column.now.modulus.now
         (edge_factors (parameters_of column.now.table.now).setup parts.now.tree) result }
     ensures seat { IsLater column.now.table.now seat.old seat.new }
+    ensures refused { OnErr result (LacksUnit (parameters_of column.now.table.now) column.now.index) }
     ensures edges { KnowsEdges seat.new column.now.table.now parts.now.tree column.now.index }
 {
     let mut product = Ok(column.modulus.of_u64(1));
@@ -47,8 +48,11 @@ fn times(
 ) -> Result<u64, NoUnit>
     requires first_below { IfOk first (λ x. x < column.now.modulus.now) }
     requires second_below { IfOk second (λ x. x < column.now.modulus.now) }
-    ensures { (f g : Fraction) → MayGive column.now.modulus.now f first → MayGive column.now.modulus.now g second
-        → MayGive column.now.modulus.now (times f g) result }
+    ensures product { (f g : Fraction) → MayGive column.now.modulus.now f first
+        → MayGive column.now.modulus.now g second → MayGive column.now.modulus.now (times f g) result }
+    ensures refused { OnErr first (LacksUnit (parameters_of column.now.table.now) column.now.index)
+        → OnErr second (LacksUnit (parameters_of column.now.table.now) column.now.index)
+        → OnErr result (LacksUnit (parameters_of column.now.table.now) column.now.index) }
 {
     Ok(column.modulus.mul(first?, second?))
 }

@@ -1,10 +1,10 @@
 //! The flags at a vertex.
 
-ghost use Rattle.std.specs.Prelude.{◌≡◌, ◌≢◌, ◌<◌, ◌≤◌, length, All, IfOk};
+ghost use Rattle.std.specs.Prelude.{◌≡◌, ◌≢◌, ◌<◌, ◌≤◌, length, All, IfOk, OnErr};
 ghost use Rattle.arithmetic.specs.Fractions.{IsResidue};
 ghost use Rattle.vertex_factor.specs.Ends.{ends_of};
 ghost use Rattle.factor_table.specs.Seats.{parameters_of, IsSeatOf};
-ghost use Rattle.table_sum.specs.Words.{MayGive, IsLater};
+ghost use Rattle.table_sum.specs.Words.{MayGive, IsLater, LacksUnit};
 ghost use Rattle.table_sum.specs.Ends.{IsEndIn, product_of_flags, sum_of_flags, power_at_ends};
 
 use crate::column::Column;
@@ -38,6 +38,7 @@ pub(crate) fn power_at_ends(
     ensures value { MayGive column.now.modulus.now
         (power_at_ends (parameters_of column.now.table.now).setup c (ends_of ends.now) exponent) result }
     ensures seat { IsLater column.now.table.now seat.old seat.new }
+    ensures refused { OnErr result (LacksUnit (parameters_of column.now.table.now) column.now.index) }
 {
     let flags = flags_over(column, seat, c, ends)?;
     let tangent = column.tangent(seat, c);
@@ -62,6 +63,7 @@ fn flags_over(
     ensures sum { IfOk result (λ flags. IsResidue column.now.modulus.now
         (sum_of_flags (parameters_of column.now.table.now).setup c (ends_of ends.now)) flags.sum) }
     ensures seat { IsLater column.now.table.now seat.old seat.new }
+    ensures refused { OnErr result (LacksUnit (parameters_of column.now.table.now) column.now.index) }
 {
     let mut flags = Flags {
         product: column.modulus.of_u64(1),

@@ -65,10 +65,10 @@ impl<'a> TableSum<'a> {
 }
 
 impl TableSum<'_> {
-    ghost use Rattle.std.specs.Prelude.{◌≡◌, ℕ, ◌<◌, ◌≤◌, [], get_or, length, take, flat_map, slice_index};
+    ghost use Rattle.std.specs.Prelude.{◌≡◌, ℕ, ◌<◌, ◌≤◌, [], get_or, length, take, flat_map, slice_index, OnErr};
     ghost use Rattle.localisation.specs.Contribution.{contribution};
-    ghost use Rattle.factor_table.specs.Seats.{IsSeatOf};
-    ghost use Rattle.table_sum.specs.Words.{MayGive, IsLater};
+    ghost use Rattle.factor_table.specs.Seats.{parameters_of, IsSeatOf};
+    ghost use Rattle.table_sum.specs.Words.{MayGive, IsLater, LacksUnit};
     ghost use Rattle.table_sum.specs.Trees.{KnowsEdges, tree_start};
     ghost use Rattle.table_sum.specs.Classes.{classes_of_terms};
     ghost use Rattle.table_sum.specs.Numberings.{answer_at};
@@ -79,7 +79,8 @@ impl TableSum<'_> {
     /// is.
     ///
     /// # Errors
-    /// `NoUnit` if a word that is asked for is no unit. The tree may have a contribution all the same.
+    /// `NoUnit` if a word that is asked for is no unit, so only if for this modulus the fraction of a key of the table has
+    /// no residue, or one over `n!` for some number `n` of vertices. The tree may have a contribution all the same.
     pub fn tree_residue(
         &self,
         seat: &mut FactorSeat,
@@ -94,6 +95,7 @@ impl TableSum<'_> {
         ensures value { MayGive (slice_index (problem_of self.now).moduli modulus)
             (contribution (problem_of self.now).setup (get_or (problem_of self.now).integrals integral [])
             parts.now.tree) result }
+        ensures refused { OnErr result (LacksUnit (parameters_of (table_of self.now)) modulus) }
         ensures seat { IsLater (table_of self.now) seat.old seat.new }
         ensures edges { KnowsEdges seat.new (table_of self.now) parts.now.tree modulus }
     {
@@ -117,6 +119,7 @@ impl TableSum<'_> {
         requires modulus { modulus < length (problem_of self.now).moduli }
         ensures value { MayGive (slice_index (problem_of self.now).moduli modulus)
             (tree_start (problem_of self.now).setup parts.now.tree) result }
+        ensures refused { OnErr result (LacksUnit (parameters_of (table_of self.now)) modulus) }
         ensures seat { IsLater (table_of self.now) seat.old seat.new }
         ensures edges { KnowsEdges seat.new (table_of self.now) parts.now.tree modulus }
     {
@@ -135,6 +138,8 @@ impl TableSum<'_> {
         ensures each { (index : ℕ) → index < length (problem_of self.now).moduli
             → MayGive (slice_index (problem_of self.now).moduli index)
             (tree_start (problem_of self.now).setup parts.now.tree) (answer_at result index) }
+        ensures refused { (index : ℕ) → index < length (problem_of self.now).moduli
+            → OnErr (answer_at result index) (LacksUnit (parameters_of (table_of self.now)) index) }
         ensures seat { IsLater (table_of self.now) seat.old seat.new }
         ensures edges { KnowsTree (problem_view (problem_of self.now)) (table_of self.now) seat.new parts.now.tree }
     {
@@ -163,9 +168,11 @@ impl TableSum<'_> {
         requires first { first ≡ length (flat_map classes_of_terms (take integral (problem_of self.now).integrals)) }
         requires start { MayGive (slice_index (problem_of self.now).moduli modulus)
             (tree_start (problem_of self.now).setup parts.now.tree) start }
+        requires start_refused { OnErr start (LacksUnit (parameters_of (table_of self.now)) modulus) }
         ensures value { MayGive (slice_index (problem_of self.now).moduli modulus)
             (contribution (problem_of self.now).setup (get_or (problem_of self.now).integrals integral [])
             parts.now.tree) result }
+        ensures refused { OnErr result (LacksUnit (parameters_of (table_of self.now)) modulus) }
         ensures seat { IsLater (table_of self.now) seat.old seat.new }
     {
         let column = self.column(modulus);

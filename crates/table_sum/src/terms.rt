@@ -1,11 +1,11 @@
 //! The sum over the terms of an integral at a tree, from words of the table.
 
-ghost use Rattle.std.specs.Prelude.{◌≡◌, ℕ, ◌<◌, ◌≤◌, length, All};
+ghost use Rattle.std.specs.Prelude.{◌≡◌, ℕ, ◌<◌, ◌≤◌, length, All, OnErr};
 ghost use Rattle.localisation.specs.ClassValue.{exponent_of};
 ghost use Rattle.localisation.specs.Contribution.{vertex_factors};
 ghost use Rattle.contribution.specs.Terms.{sum_of_terms, vertex_at, IsTermFor};
 ghost use Rattle.factor_table.specs.Seats.{parameters_of, IsSeatOf};
-ghost use Rattle.table_sum.specs.Words.{MayGive, IsLater};
+ghost use Rattle.table_sum.specs.Words.{MayGive, IsLater, LacksUnit};
 ghost use Rattle.table_sum.specs.Trees.{IsShapeIn};
 ghost use Rattle.table_sum.specs.Classes.{classes_of_terms, AreClassesFrom};
 
@@ -36,6 +36,7 @@ pub(crate) fn terms_residue(
     ensures value { MayGive column.now.modulus.now
         (sum_of_terms (parameters_of column.now.table.now).setup parts.now.tree terms.now) result }
     ensures seat { IsLater column.now.table.now seat.old seat.new }
+    ensures refused { OnErr result (LacksUnit (parameters_of column.now.table.now) column.now.index) }
 {
     let mut sum = column.modulus.of_u64(0);
     let mut index = first;
@@ -62,6 +63,7 @@ fn vertices_residue(
     ensures value { MayGive column.now.modulus.now
         (vertex_factors (parameters_of column.now.table.now).setup term.now parts.now.tree) result }
     ensures seat { IsLater column.now.table.now seat.old seat.new }
+    ensures refused { OnErr result (LacksUnit (parameters_of column.now.table.now) column.now.index) }
 {
     let mut product = column.modulus.of_u64(1);
     for vertex in 0..parts.vertices() {
@@ -86,6 +88,7 @@ fn at_vertex(
     ensures value { MayGive column.now.modulus.now
         (vertex_at (parameters_of column.now.table.now).setup term.now parts.now.tree vertex) result }
     ensures seat { IsLater column.now.table.now seat.old seat.new }
+    ensures refused { OnErr result (LacksUnit (parameters_of column.now.table.now) column.now.index) }
 {
     let ends = parts.ends_at(vertex);
     let colour = parts.colour(vertex);

@@ -1,11 +1,11 @@
 //! The contribution of a tree to an integral, from words of the table.
 
-ghost use Rattle.std.specs.Prelude.{◌≡◌, ◌<◌, ◌≤◌, length, slice_index, All};
+ghost use Rattle.std.specs.Prelude.{◌≡◌, ◌<◌, ◌≤◌, length, slice_index, All, OnErr};
 ghost use Rattle.arithmetic.specs.Fractions.{IsResidue};
 ghost use Rattle.localisation.specs.Contribution.{contribution};
 ghost use Rattle.contribution.specs.Terms.{IsTermFor};
 ghost use Rattle.factor_table.specs.Seats.{parameters_of, IsSeatOf};
-ghost use Rattle.table_sum.specs.Words.{MayGive, IsLater};
+ghost use Rattle.table_sum.specs.Words.{MayGive, IsLater, LacksUnit};
 ghost use Rattle.table_sum.specs.Trees.{IsShapeIn, KnowsEdges, tree_start};
 ghost use Rattle.table_sum.specs.Classes.{classes_of_terms, AreClassesFrom};
 ghost use Rattle.table_sum.specs.Numberings.{AreNumberings};
@@ -37,6 +37,7 @@ pub(crate) fn start_residue(
     ensures value { MayGive column.now.modulus.now
         (tree_start (parameters_of column.now.table.now).setup parts.now.tree) result }
     ensures seat { IsLater column.now.table.now seat.old seat.new }
+    ensures refused { OnErr result (LacksUnit (parameters_of column.now.table.now) column.now.index) }
     ensures edges { KnowsEdges seat.new column.now.table.now parts.now.tree column.now.index }
 {
     let edges = edges_residue(column, seat, parts)?;
@@ -66,6 +67,7 @@ pub(crate) fn contribution_residue(
         → MayGive column.now.modulus.now
         (contribution (parameters_of column.now.table.now).setup terms.now parts.now.tree) result }
     ensures seat { IsLater column.now.table.now seat.old seat.new }
+    ensures refused { OnErr result (LacksUnit (parameters_of column.now.table.now) column.now.index) }
 {
     let sum = terms_residue(column, seat, parts, terms, first)?;
     Ok(column.modulus.mul(start, sum))

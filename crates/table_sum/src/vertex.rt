@@ -1,10 +1,10 @@
 //! The factor of a vertex, from words of the table.
 
-ghost use Rattle.std.specs.Prelude.{◌≡◌, ◌≢◌, ◌+◌, ◌-◌, ◌<◌, ◌≤◌, ◌∷◌, [], length, sum, All};
+ghost use Rattle.std.specs.Prelude.{◌≡◌, ◌≢◌, ◌+◌, ◌-◌, ◌<◌, ◌≤◌, ◌∷◌, [], length, sum, All, OnErr};
 ghost use Rattle.localisation.specs.VertexFraction.{vertex_fraction, plain_vertex};
 ghost use Rattle.vertex_factor.specs.Ends.{end, ends_of};
 ghost use Rattle.factor_table.specs.Seats.{parameters_of, IsSeatOf};
-ghost use Rattle.table_sum.specs.Words.{MayGive, IsLater};
+ghost use Rattle.table_sum.specs.Words.{MayGive, IsLater, LacksUnit};
 ghost use Rattle.table_sum.specs.Ends.{IsEndIn};
 
 use crate::column::Column;
@@ -34,6 +34,7 @@ pub(crate) fn vertex_residue(
     ensures value { MayGive column.now.modulus.now
         (vertex_fraction (parameters_of column.now.table.now).setup c (ends_of ends.now) exponents.now) result }
     ensures seat { IsLater column.now.table.now seat.old seat.new }
+    ensures refused { OnErr result (LacksUnit (parameters_of column.now.table.now) column.now.index) }
 {
     if sum(exponents) == 0 {
         plain_residue(column, seat, c, ends, exponents.len() as u64)
@@ -67,6 +68,7 @@ fn plain_residue(
     ensures value { MayGive column.now.modulus.now
         (plain_vertex (parameters_of column.now.table.now).setup c (ends_of ends.now) marks) result }
     ensures seat { IsLater column.now.table.now seat.old seat.new }
+    ensures refused { OnErr result (LacksUnit (parameters_of column.now.table.now) column.now.index) }
 {
     let special = ends.len() as u64 + marks;
     if special >= 3 {
@@ -92,6 +94,7 @@ fn leaf_residue(
     ensures value { MayGive column.now.modulus.now
         (plain_vertex (parameters_of column.now.table.now).setup c (end only.0 only.1 ∷ []) 0) result }
     ensures seat { IsLater column.now.table.now seat.old seat.new }
+    ensures refused { OnErr result (LacksUnit (parameters_of column.now.table.now) column.now.index) }
 {
     let tip = column.tip(seat, c, only.0, only.1)?;
     let zero = column.modulus.of_u64(0);
@@ -116,6 +119,7 @@ fn psi_residue(
     ensures value { MayGive column.now.modulus.now
         (vertex_fraction (parameters_of column.now.table.now).setup c (ends_of ends.now) exponents.now) result }
     ensures seat { IsLater column.now.table.now seat.old seat.new }
+    ensures refused { OnErr result (LacksUnit (parameters_of column.now.table.now) column.now.index) }
 {
     let exponent = sum(exponents);
     let special = ends.len() as u64 + exponents.len() as u64;

@@ -26,6 +26,7 @@ loop-edge-init c = record {
   seat = later_same _ _ c.requires.seat;
   value = IsResidue-whole (pos 1) c.of_u64.ensures;
   edges = λ i d h. absurd (omega arith);
+  refused = tt;
 }
 
 pub loop-edge-preserved : goal.loop-edge-preserved
@@ -37,9 +38,10 @@ loop-edge-preserved c =
     record {
       seat = later_after _ _ _ _ c.loop-edge.invariant.seat c.edge-factor.ensures.seat;
       value = rw (product-more (of_edge (edge_fraction ws)) es i (coloured_edge 0 0 0) c.loop-edge-test.true)
-          (c.times-product.ensures _ _ c.loop-edge.invariant.value c.edge-factor.ensures.value);
+          (c.times-product.ensures.product _ _ c.loop-edge.invariant.value c.edge-factor.ensures.value);
       edges = one_more column.table.now _ _ column.index es i
           (coloured_edge 0 0 0) c.loop-edge-test.true c.edge-factor.ensures.seat c.loop-edge.invariant.edges c.edge-factor.ensures.knows;
+      refused = c.times-product.ensures.refused c.loop-edge.invariant.refused c.edge-factor.ensures.refused;
     }
 
 pub returns-clause-value : goal.returns-clause-value

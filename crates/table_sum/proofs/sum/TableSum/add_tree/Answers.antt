@@ -16,6 +16,7 @@ use Rattle.table_sum.proofs.Later.{later_after}
 use Rattle.table_sum.proofs.ClassLaws.{length-next}
 use Rattle.table_sum.proofs.ProblemLaws.{count_within}
 use Rattle.table_sum.proofs.SumLaws.{adds_here, still_below, tree_later}
+use Rattle.table_sum.proofs.Lacking.{lacks_some, of_err, on_err}
 use Rattle.table_sum.proofs.sum.TableSum.add_tree.Goals as goal
 
 pub of-parts-requires : goal.of-parts-requires
@@ -178,3 +179,17 @@ returns-clause-added c = λ q below.
     (let end = c.len-integral-end.ensures in let past = c.loop-integral-test.false in omega arith) in
     let place = c.loop-integral.invariant.place ∙ ap (λ n. n * length p.moduli) all in
     c.loop-integral.invariant.added q (subst (λ n. q < n) (sym place) below)
+
+pub returns-in_err-residue-clause-cause : goal.returns-in_err-residue-clause-cause
+returns-in_err-residue-clause-cause c =
+    let s = c.args.self.now in
+    let below : c.loop-modulus.modulus < length s.problem.now.moduli =
+    (let end = c.len-modulus-end.ensures in let test = c.loop-modulus-test.true in omega arith) in
+    on_err _ _
+    (lacks_some s.problem.now s.table.now c.loop-modulus.modulus s.its_table below (of_err _ _ c.in_err-residue.was c.residue.ensures.refused))
+
+pub returns-in_err-residue-clause-edges : goal.returns-in_err-residue-clause-edges
+returns-in_err-residue-clause-edges c =
+    let s = c.args.self.now in
+    tree_later s.problem.now s.table.now _ _
+    (tree_view c.args.tree.now) c.residue.ensures.seat c.loop-modulus.invariant.edges

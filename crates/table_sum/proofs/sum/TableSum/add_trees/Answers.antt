@@ -6,6 +6,7 @@ use Rattle.range_sum.proofs.RangeLaws.{IsTreeUpTo}
 use Rattle.table_sum.specs.Sums.{GrowBy}
 use Rattle.table_sum.proofs.Later.{later_same, later_after}
 use Rattle.table_sum.proofs.SumLaws.{no_trees, one_tree_more, trees_next, both_first, both_second, from_ok}
+use Rattle.table_sum.proofs.Lacking.{either_false, from_err}
 use Rattle.table_sum.proofs.sum.TableSum.add_trees.Goals as goal
 use Rattle.table_sum.proofs.sum.TableSum.add_trees.Goals.{then-k-stop, else-k-stop}
 
@@ -18,6 +19,7 @@ loop-k-init c = record {
   padded = c.tree-tree.ensures.padded;
   below = c.requires.below;
   added = λ h. no_trees c.args.self.now.problem.now c.args.first c.args.sums.now c.requires.below;
+  cause = λ h. absurd (cc);
   rest = λ place h. refl;
   seat = later_same _ _ c.requires.seat;
   edges = λ k from below. absurd (omega arith);
@@ -60,6 +62,8 @@ loop-k-preserved c =
           (c.loop-k.invariant.added (both_first _ _ sure))
           (from_ok added.result (GrowBy p (λ terms. contribution p.setup terms (tree_view c.loop-k.tree)) c.loop-k.sums added.new.sums)
           (sym c.is_ok.ensures.value ∙ both_second _ _ sure) added.ensures.added);
+      cause = λ none. either_false _ _ _ (sym c.both-every.ensures ∙ none) c.loop-k.invariant.cause
+          (λ err. from_err added.result _ (sym c.is_ok.ensures.value ∙ err) added.ensures.cause);
       rest = λ place h. added.ensures.rest place h ∙ c.loop-k.invariant.rest place h;
       seat = later_after _ _ _ _ c.loop-k.invariant.seat added.ensures.seat;
       edges = trees_next (view p) s.table.now _ _
@@ -74,3 +78,6 @@ returns-then-every-clause-added c =
     let all : c.loop-k.k ≡ c.args.stop = omega arith in
     subst (λ n. GrowBy p (partial_sum p.setup p.shape c.args.first n) c.args.sums.now c.loop-k.sums) all
     (c.loop-k.invariant.added c.if-every.true)
+
+pub returns-else-every-clause-cause : goal.returns-else-every-clause-cause
+returns-else-every-clause-cause c = c.loop-k.invariant.cause c.if-every.false

@@ -1,6 +1,6 @@
 -- The table is of the problem's weights, degree and classes, and the classes of the integral are in it from the given
 -- index on: so the call for any terms gives the residue of this integral's contribution.
-use Rattle.std.proofs.Common.{◌<◌, [], slice_index, All, ap, sym, subst, ◌∙◌}
+use Rattle.std.proofs.Common.{◌<◌, [], slice_index, All, OnErr, ap, sym, subst, ◌∙◌}
 use Rattle.std.proofs.lemmas.Option.{get_or_from_slice_get}
 use Rattle.std.proofs.lemmas.Result.{IfOk-at_ok}
 use Rattle.arithmetic.specs.Fractions.{IsResidue}
@@ -10,7 +10,7 @@ use Rattle.contribution.specs.Terms.{IsTermFor}
 use Rattle.range_sum.proofs.ProblemTrees.{terms_for}
 use Rattle.factor_table.specs.declared.table.FactorTable.{FactorTable}
 use Rattle.factor_table.specs.Seats.{parameters_of, IsSeatOf}
-use Rattle.table_sum.specs.Words.{MayGive, IsLater}
+use Rattle.table_sum.specs.Words.{MayGive, IsLater, LacksUnit}
 use Rattle.table_sum.specs.Trees.{IsShapeIn, tree_start}
 use Rattle.table_sum.specs.Classes.{classes_of_terms, AreClassesFrom}
 use Rattle.table_sum.proofs.ProblemLaws.{table_shape, table_setup, integral_classes}
@@ -75,3 +75,10 @@ pub returns-clause-seat : goal.returns-clause-seat
 returns-clause-seat c =
     subst
     (λ t. IsLater t c.args.seat.now c.contribution_residue.new.seat) c.column-column.ensures.table c.contribution_residue.ensures.seat
+
+pub returns-clause-refused : goal.returns-clause-refused
+returns-clause-refused c =
+    subst
+    (λ i. OnErr c.contribution_residue.result (LacksUnit (parameters_of c.args.self.now.table.now) i)) c.column-column.ensures.index
+    (subst (λ (t : FactorTable). OnErr c.contribution_residue.result (LacksUnit (parameters_of t) c.column-column.result.index)) c.column-column.ensures.table
+    c.contribution_residue.ensures.refused)

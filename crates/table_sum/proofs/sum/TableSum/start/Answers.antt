@@ -1,9 +1,9 @@
 -- The table is of the problem's weights, degree and moduli, so the call for any column gives the residue for this
 -- modulus.
-use Rattle.std.proofs.Common.{ap, sym, subst, ◌∙◌, arith}
+use Rattle.std.proofs.Common.{ap, OnErr, sym, subst, ◌∙◌, arith}
 use Rattle.factor_table.specs.declared.table.FactorTable.{FactorTable}
 use Rattle.factor_table.specs.Seats.{parameters_of, IsSeatOf}
-use Rattle.table_sum.specs.Words.{MayGive, IsLater}
+use Rattle.table_sum.specs.Words.{MayGive, IsLater, LacksUnit}
 use Rattle.table_sum.specs.Trees.{IsShapeIn, KnowsEdges, tree_start}
 use Rattle.table_sum.specs.Numberings.{AreNumberings}
 use Rattle.table_sum.proofs.ProblemLaws.{table_shape, table_setup, table_moduli}
@@ -40,7 +40,8 @@ returns-clause-value c =
     let g = c.args.parts.now.tree in
     let setup =
     ap
-    (λ (t : FactorTable). (parameters_of t).setup) column.ensures.table ∙ table_setup s.problem.now s.table.now s.its_table in
+    (λ (t : FactorTable). (parameters_of t).setup) column.ensures.table
+    ∙ table_setup s.problem.now s.table.now s.its_table in
     subst (λ m. MayGive m (tree_start s.problem.now.setup g) c.start_residue.result) column.ensures.modulus
     (subst (λ ws. MayGive column.result.modulus.now (tree_start ws g) c.start_residue.result) setup c.start_residue.ensures.value)
 
@@ -54,3 +55,10 @@ returns-clause-edges c =
     subst
     (KnowsEdges c.start_residue.new.seat c.args.self.now.table.now c.args.parts.now.tree) c.column-column.ensures.index
     (subst (λ t. KnowsEdges c.start_residue.new.seat t c.args.parts.now.tree c.column-column.result.index) c.column-column.ensures.table c.start_residue.ensures.edges)
+
+pub returns-clause-refused : goal.returns-clause-refused
+returns-clause-refused c =
+    subst
+    (λ i. OnErr c.start_residue.result (LacksUnit (parameters_of c.args.self.now.table.now) i)) c.column-column.ensures.index
+    (subst (λ (t : FactorTable). OnErr c.start_residue.result (LacksUnit (parameters_of t) c.column-column.result.index)) c.column-column.ensures.table
+    c.start_residue.ensures.refused)

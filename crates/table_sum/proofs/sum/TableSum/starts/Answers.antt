@@ -1,6 +1,7 @@
-use Rattle.std.proofs.Common.{Ok, slice_index, refl, ◌∙◌, arith, length-set}
+use Rattle.std.proofs.Common.{Ok, OnErr, slice_index, refl, ◌∙◌, arith, length-set}
 use Rattle.range_sum.proofs.SumIndices.{added_next}
-use Rattle.table_sum.specs.Words.{MayGive}
+use Rattle.factor_table.specs.Seats.{parameters_of}
+use Rattle.table_sum.specs.Words.{MayGive, LacksUnit}
 use Rattle.table_sum.specs.Trees.{KnowsEdges, tree_start}
 use Rattle.table_sum.proofs.Later.{later_after}
 use Rattle.table_sum.proofs.SumLaws.{below_next, edges_later}
@@ -24,6 +25,11 @@ loop-modulus-preserved c =
           (λ q old new. MayGive (slice_index p.moduli q) (tree_start p.setup g) new) c.loop-modulus.starts c.loop-modulus.starts
           (Ok 0) c.start.result i
           (omega (arith, size, most, end, below)) c.loop-modulus.invariant.each refl c.start.ensures.value;
+      refused =
+          added_next
+          (λ q old new. OnErr new (LacksUnit (parameters_of s.table.now) q)) c.loop-modulus.starts c.loop-modulus.starts
+          (Ok 0) c.start.result i
+          (omega (arith, size, most, end, below)) c.loop-modulus.invariant.refused refl c.start.ensures.refused;
       edges = below_next (KnowsEdges c.start.new.seat s.table.now g) i
           (λ k h. edges_later s.table.now c.loop-modulus.seat c.start.new.seat g k c.start.ensures.seat (c.loop-modulus.invariant.edges k h)) c.start.ensures.edges;
     }
