@@ -8,6 +8,7 @@
 
 mod gate;
 mod job;
+mod meeting;
 mod pool;
 mod shares;
 #[cfg(test)]
@@ -15,5 +16,6 @@ mod tests;
 
 pub use gate::Gate;
 pub use job::Job;
+pub use meeting::{Hold, MeetingGate};
 pub use pool::{Round, run_round, work_loop};
 pub use shares::Shares;

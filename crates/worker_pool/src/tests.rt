@@ -5,6 +5,7 @@ ghost use Rattle.worker_pool.specs.Marks.{mark_of, mark_below};
 
 use crate::gate::Gate;
 use crate::job::Job;
+use crate::meeting::{Hold, MeetingGate};
 use crate::pool::{Round, run_round};
 use crate::shares::Shares;
 use claim_table::{Block, NOTHING_BAD};
@@ -57,69 +58,6 @@ struct Open;
 
 impl Gate for Open {
     fn pass(&self, _worker: u32, _turn: u64) {}
-}
-
-// Holds worker 0 at one turn until worker 1 has come with a certain turn, and worker 1 likewise. Each
-// pass is noted before the worker is held, and so is that a worker was held in vain.
-#[derive(Drop)]
-struct Meet {
-    held_0_at: u64,
-    until_1_at: u64,
-    held_1_at: u64,
-    until_0_at: u64,
-    turns_of_0: AtomicU64,
-    turns_of_1: AtomicU64,
-    gave_up: AtomicU64,
-}
-
-impl Meet {
-    // Holds worker 0 at the first turn of the first pair until worker 1 comes with the second, and
-    // worker 1 at the first turn of the second pair until worker 0 comes with the second.
-    fn new(hold_0: (u64, u64), hold_1: (u64, u64)) -> Meet {
-        Meet {
-            held_0_at: hold_0.0,
-            until_1_at: hold_0.1,
-            held_1_at: hold_1.0,
-            until_0_at: hold_1.1,
-            turns_of_0: AtomicU64::new(0),
-            turns_of_1: AtomicU64::new(0),
-            gave_up: AtomicU64::new(0),
-        }
-    }
-
-    // Waits until more than this many turns have come, for a bounded number of looks.
-    fn hold(&self, turns: &AtomicU64, wanted: u64) {
-        for _ in 0..1_000_000_000u64 {
-            if turns.load(Ordering::SeqCst) > wanted {
-                return;
-            }
-        }
-        self.gave_up.store(1, Ordering::SeqCst);
-    }
-
-    // Nobody was held in vain, and both named passes came.
-    fn have_met(&self) -> bool {
-        self.gave_up.load(Ordering::SeqCst) == 0
-            && self.turns_of_0.load(Ordering::SeqCst) > self.until_0_at
-            && self.turns_of_1.load(Ordering::SeqCst) > self.until_1_at
-    }
-}
-
-impl Gate for Meet {
-    fn pass(&self, worker: u32, turn: u64) {
-        let turns = turn.saturating_add(1);
-        if worker == 0 {
-            self.turns_of_0.fetch_max(turns, Ordering::SeqCst);
-            if turn == self.held_0_at {
-                self.hold(&self.turns_of_1, self.until_1_at);
-            }
-        } else {
-            self.turns_of_1.fetch_max(turns, Ordering::SeqCst);
-            if turn == self.held_1_at {
-                self.hold(&self.turns_of_0, self.until_0_at);
-            }
-        }
-    }
 }
 
 // Counts all passes, and adds up the turns and the numbers of the workers.
@@ -229,7 +167,7 @@ fn shares_agree(played: &Played) -> bool {
 // A pool that runs one loop to its end before the other, in either order, gives up.
 #[test]
 fn two_loops_run_beside_each_other(rt: HostRuntime) -> Result<(), Fail> {
-    let gate = Meet::new((0, 1), (1, 0));
+    let gate = MeetingGate::new(Hold { at: 0, until: 1 }, Hold { at: 1, until: 0 });
     let played = play(&rt, rt.alloc(), &[NOTHING_BAD; 88], 2, &gate)?;
     assert!(rt;
         gate.have_met(),
@@ -244,7 +182,7 @@ fn two_loops_run_beside_each_other(rt: HostRuntime) -> Result<(), Fail> {
 // and then worker 0 is held, so that no take of it falls into a cut.
 #[test]
 fn a_worker_steals_what_another_leaves(rt: HostRuntime) -> Result<(), Fail> {
-    let gate = Meet::new((1, 45), (0, 1));
+    let gate = MeetingGate::new(Hold { at: 1, until: 45 }, Hold { at: 0, until: 1 });
     let played = play(&rt, rt.alloc(), &[NOTHING_BAD; 88], 2, &gate)?;
     assert!(rt;
         gate.have_met(),
