@@ -37,7 +37,7 @@ abbrev pub degrees_fit : TreeShape → ℕ → List Term → Result (Unit {0}) P
 degrees_fit s i [] = Ok tt
 degrees_fit s i (t ∷ ts) = do
   _ ← keep (nat_eq (powers_degree s.degree t.classes) (dimension_of s))
-  (WrongDegree i (powers_degree s.degree t.classes) (dimension_of s))
+      (WrongDegree i (powers_degree s.degree t.classes) (dimension_of s))
   degrees_fit s (i + 1) ts
 
 -- the same of all integrals in their order

@@ -2,7 +2,6 @@
 //! that a number generates.
 #![tactic(auto)]
 
-mod classes;
 mod degrees;
 mod error;
 mod generator;
@@ -12,6 +11,7 @@ mod kind;
 mod moduli;
 mod name;
 mod place;
+mod powers;
 mod reading;
 mod refusal;
 mod table;

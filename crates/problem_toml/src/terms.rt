@@ -7,7 +7,7 @@ ghost use Rattle.problem_toml.specs.Steps.{Gives};
 ghost use Rattle.problem_toml.specs.Tables.{tables_among};
 ghost use Rattle.problem_toml.specs.Terms.{term_of, terms_from};
 
-use crate::classes::powers;
+use crate::powers::powers;
 use crate::error::ProblemError;
 use crate::name::Name;
 use crate::place::Place;

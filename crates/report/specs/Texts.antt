@@ -48,6 +48,6 @@ done_text p residues found = number_line (codes "trees") (count_of p) ++ lines_f
 -- the least bad number, its first modulus and the text of its tree
 abbrev pub no_inverse_text : ProblemView → ℕ → ℕ → List ℕ
 no_inverse_text p number place =
-    codes "no inverse\n" ++ number_line (codes "tree") number ++ number_line (codes "modulus")
-    (slice_index p.moduli place)
+    codes "no inverse\n" ++ number_line (codes "tree") number
+    ++ number_line (codes "modulus") (slice_index p.moduli place)
     ++ tree_text (tree_of p.shape number) ++ codes "\n"

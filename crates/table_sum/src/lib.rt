@@ -19,7 +19,7 @@
 #![tactic(auto)]
 
 mod block;
-mod classes;
+mod class_values;
 mod column;
 mod edges;
 mod flags;

@@ -9,7 +9,7 @@ ghost use Rattle.table_sum.specs.Words.{MayGive, IsLater, LacksUnit};
 ghost use Rattle.table_sum.specs.Trees.{IsShapeIn};
 ghost use Rattle.table_sum.specs.Classes.{classes_of_terms, AreClassesFrom};
 
-use crate::classes::term_value;
+use crate::class_values::term_value;
 use crate::column::Column;
 use crate::vertex::vertex_residue;
 use contribution::exponents_of;

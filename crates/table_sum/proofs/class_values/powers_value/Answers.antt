@@ -13,7 +13,7 @@ use Rattle.factor_table.specs.Seats.{parameters_of}
 use Rattle.table_sum.proofs.Later.{later_same, later_after}
 use Rattle.table_sum.proofs.Powers.{residue_times, residue_power}
 use Rattle.table_sum.proofs.ClassLaws.{class_of_power, power_within}
-use Rattle.table_sum.proofs.classes.powers_value.Goals as goal
+use Rattle.table_sum.proofs.class_values.powers_value.Goals as goal
 
 pub loop-power-init : goal.loop-power-init
 loop-power-init c = record {

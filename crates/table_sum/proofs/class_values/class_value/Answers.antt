@@ -5,7 +5,7 @@ use Rattle.localisation.specs.ClassValue.{class_value, class_product}
 use Rattle.factor_table.specs.Seats.{parameters_of}
 use Rattle.table_sum.proofs.Powers.{residue_times}
 use Rattle.table_sum.proofs.ClassLaws.{has_product, whole_value}
-use Rattle.table_sum.proofs.classes.class_value.Goals as goal
+use Rattle.table_sum.proofs.class_values.class_value.Goals as goal
 
 pub returns-in_ok-at_vertices-clause-value : goal.returns-in_ok-at_vertices-clause-value
 returns-in_ok-at_vertices-clause-value c =

@@ -5,7 +5,7 @@ use Rattle.class_factor.specs.Vertices.{class_at_vertex}
 use Rattle.factor_table.specs.Factors.{class_at}
 use Rattle.factor_table.specs.Seats.{parameters_of}
 use Rattle.table_sum.specs.Words.{IsLater}
-use Rattle.table_sum.proofs.classes.vertex_parts.Given as goal
+use Rattle.table_sum.proofs.class_values.vertex_parts.Given as goal
 
 abbrev pub invariant-loop-vertex : goal.invariant-loop-vertex
 invariant-loop-vertex l = record {

@@ -3,7 +3,7 @@ use Rattle.arithmetic.specs.Fractions.{IsResidue}
 use Rattle.class_factor.specs.Powers.{value_of_powers}
 use Rattle.factor_table.specs.Seats.{parameters_of}
 use Rattle.table_sum.specs.Words.{IsLater}
-use Rattle.table_sum.proofs.classes.powers_value.Given as goal
+use Rattle.table_sum.proofs.class_values.powers_value.Given as goal
 
 abbrev pub invariant-loop-power : goal.invariant-loop-power
 invariant-loop-power l = record {

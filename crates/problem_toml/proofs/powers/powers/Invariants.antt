@@ -4,7 +4,7 @@ use Rattle.problem.specs.Rules.{IsPower}
 use Rattle.problem_toml.specs.Classes.{powers_from}
 use Rattle.problem_toml.specs.Tables.{tables_among}
 use Rattle.problem_toml.proofs.Arrays.{with_front}
-use Rattle.problem_toml.proofs.classes.powers.Given as goal
+use Rattle.problem_toml.proofs.powers.powers.Given as goal
 
 abbrev pub invariant-loop-value : goal.invariant-loop-value
 invariant-loop-value l = record {

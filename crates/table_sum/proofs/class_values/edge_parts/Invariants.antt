@@ -5,7 +5,7 @@ use Rattle.class_factor.proofs.Values.{of_edge}
 use Rattle.factor_table.specs.Factors.{class_at}
 use Rattle.factor_table.specs.Seats.{parameters_of}
 use Rattle.table_sum.specs.Words.{IsLater}
-use Rattle.table_sum.proofs.classes.edge_parts.Given as goal
+use Rattle.table_sum.proofs.class_values.edge_parts.Given as goal
 
 abbrev pub invariant-loop-edge : goal.invariant-loop-edge
 invariant-loop-edge l = record {

@@ -6,7 +6,7 @@ use Rattle.arithmetic.proofs.Residues.{IsResidue-whole}
 use Rattle.class_factor.specs.Powers.{value_of_powers}
 use Rattle.factor_table.specs.Seats.{parameters_of}
 use Rattle.table_sum.proofs.Powers.{residue_times}
-use Rattle.table_sum.proofs.classes.term_value.Goals as goal
+use Rattle.table_sum.proofs.class_values.term_value.Goals as goal
 
 pub returns-clause-value : goal.returns-clause-value
 returns-clause-value c =

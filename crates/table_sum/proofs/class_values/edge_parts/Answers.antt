@@ -12,7 +12,7 @@ use Rattle.factor_table.specs.Seats.{parameters_of}
 use Rattle.table_sum.proofs.Later.{later_same, later_after}
 use Rattle.table_sum.proofs.Powers.{residue_times}
 use Rattle.table_sum.proofs.TreeKeys.{class_edge_key}
-use Rattle.table_sum.proofs.classes.edge_parts.Goals as goal
+use Rattle.table_sum.proofs.class_values.edge_parts.Goals as goal
 
 pub class_edge-requires-clause-seat : goal.class_edge-requires-clause-seat
 class_edge-requires-clause-seat c = c.loop-edge.invariant.seat.seat

@@ -11,7 +11,7 @@ use Rattle.factor_table.specs.Factors.{class_at}
 use Rattle.factor_table.specs.Seats.{parameters_of}
 use Rattle.table_sum.proofs.Later.{later_same, later_after}
 use Rattle.table_sum.proofs.Powers.{residue_times}
-use Rattle.table_sum.proofs.classes.vertex_parts.Goals as goal
+use Rattle.table_sum.proofs.class_values.vertex_parts.Goals as goal
 
 pub class_vertex-requires-clause-seat : goal.class_vertex-requires-clause-seat
 class_vertex-requires-clause-seat c = c.loop-vertex.invariant.seat.seat
