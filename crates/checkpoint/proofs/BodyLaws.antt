@@ -1,22 +1,21 @@
 -- What a text writes: its last line and its first, its source, its next number and its rows.
-use Rattle.std.proofs.Common.{◌≡◌, ◌≢◌, ◌⊎◌, ℕ, zero, suc, ◌+◌, ◌-◌, ◌*◌, ◌^◌, ◌≤◌, ◌<◌, Bool, true, false, cond, not, eqb, ltb, ◌&&◌, ◌||◌, List, [], ◌∷◌, ◌++◌, length, take, drop, Option, Some, None, Result, Ok, Err, refl, sym, ap, subst, ◌∙◌, inl, inr, append_assoc, length-append, length-take, arith}
-use Rattle.std.specs.Prelude.{codes, decimal, ok_or, option_map, bytes_eq}
-use Rattle.std.specs.List.{flat_map, AllByRecursion}
-use Rattle.std.proofs.lemmas.Bool.{eqb-true, eqb-false, eq-eqb, ne_eqb, ltb-false, le-ltb, or_cases, or_parts, or_from, or_left, or_right, cases_eq, cases_Bool, not_from_true, false≢true, false_from_ne_true}
+use Rattle.std.proofs.Common.{◌≡◌, ◌≢◌, ℕ, ◌+◌, ◌-◌, ◌^◌, ◌≤◌, ◌<◌, Bool, true, false, cond, not, eqb, ltb, ◌&&◌, ◌||◌, List, [], ◌++◌, length, take, drop, Option, Some, None, Result, Ok, Err, refl, sym, ap, subst, ◌∙◌, inl, inr, append_assoc, length-append, length-take, arith}
+use Rattle.std.specs.Prelude.{codes, ok_or, option_map, bytes_eq}
+use Rattle.std.specs.List.{flat_map}
+use Rattle.std.proofs.lemmas.Bool.{eqb-true, eqb-false, eq-eqb, ne_eqb, ltb-false, le-ltb, or_cases, or_parts, or_left, or_right, false_from_ne_true}
 use Rattle.std.proofs.lemmas.List.{take_at, drop_at, take-append-drop}
 use Rattle.std.proofs.lemmas.Slice.Eq.{bytes_eq-Decides}
 use Rattle.sha2.specs.Sha256.{sha256}
 use Rattle.checkpoint.specs.Readers.{and_then, after_word, number_line_at, unsealed_at, rows_at, source_at, contents_at, sound_at, written_at}
-use Rattle.checkpoint.specs.Refusals.{Fits, Parts, HasParts, IsKnownVersion, IsRow, AreContents, Writes, IsRefusal}
-use Rattle.checkpoint.specs.Steps.{◌>>=◌, keep}
-use Rattle.checkpoint.specs.Texts.{Contents, number_line, source_text, residue_line, body_of, seal, text_of}
+use Rattle.checkpoint.specs.Refusals.{Parts, HasParts, IsKnownVersion, AreContents}
+use Rattle.checkpoint.specs.Steps.{◌>>=◌}
+use Rattle.checkpoint.specs.Texts.{Contents, number_line, source_text, residue_line, body_of, seal}
 use Rattle.checkpoint.specs.declared.error.CheckpointError.{CheckpointError}
 use Rattle.checkpoint.specs.declared.error.CheckpointError.TheVariants.{NotCheckpoint, Damaged, BadVersion, BadBody}
 use Rattle.checkpoint.proofs.Decimals.{number_line_takes, number_line_again}
-use Rattle.checkpoint.proofs.Fits.{keep_ok, keep_err}
 use Rattle.checkpoint.proofs.RowLaws.{rows_take, rows_again, rows_err, same_ok, same_err}
 use Rattle.checkpoint.proofs.Seals.{unsealed_takes, unsealed_again}
-use Rattle.checkpoint.proofs.WordLaws.{and_then_some, option_map_some, bind_ok, bind_err, ok_or_ok, ok_or_err, chosen, after_word_takes, after_word_again}
+use Rattle.checkpoint.proofs.WordLaws.{and_then_some, option_map_some, bind_ok, bind_err, ok_or_ok, ok_or_err, chosen, after_word_takes}
 
 -- ---- the source
 

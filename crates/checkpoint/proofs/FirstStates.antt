@@ -1,18 +1,14 @@
 -- The first state of a problem is true: no tree is summed, and each residue is 0.
-use Rattle.std.proofs.Common.{◌≡◌, ℕ, zero, suc, ◌*◌, ◌%◌, ◌<◌, ◌≤◌, List, length, get_or, replicate, pos, refl, sym, ap, ◌∙◌, subst, arith, mod-lt}
+use Rattle.std.proofs.Common.{◌≡◌, ℕ, zero, ◌%◌, ◌<◌, ◌≤◌, List, length, replicate, pos, sym, ap, subst, arith, mod-lt}
 use Rattle.std.specs.Prelude.{slice_index}
 use Rattle.std.proofs.lemmas.List.{length-replicate}
-use Rattle.std.proofs.Math.Nat.{mod-eq_of_lt, one-dvd, dvd_refl}
-use Rattle.arithmetic.specs.Numbers.{gcd}
 use Rattle.arithmetic.specs.Fractions.{fraction, IsResidue}
-use Rattle.arithmetic.proofs.Divisors.{gcd_from_IsGcd}
-use Rattle.arithmetic.proofs.ReduceLaws.{reduce-pos}
 use Rattle.arithmetic.proofs.Residues.{residue_of_zero}
 use Rattle.localisation.specs.Agreement.{modulus_at, integral_at}
 use Rattle.localisation.proofs.PartialSums.{partial_sum-none}
 use Rattle.problem.specs.Rules.{ProblemView, KeepsRules}
 use Rattle.problem.specs.Sums.{places_of}
-use Rattle.checkpoint.specs.States.{StateView, AreBelow, AreResidues, IsTrueState, first_state}
+use Rattle.checkpoint.specs.States.{StateView, IsTrueState, first_state}
 use Rattle.lists.proofs.Padding.{zeros}
 
 pub modulus_above : (p : ProblemView) → KeepsRules p → (place : ℕ) → 1 < modulus_at p.moduli place

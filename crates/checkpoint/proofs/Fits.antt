@@ -1,5 +1,5 @@
 -- Rows of residues that fit their problem, or the first fault of them.
-use Rattle.std.proofs.Common.{◌≡◌, ◌≢◌, ◌⊎◌, ℕ, zero, suc, ◌+◌, ◌-◌, ◌*◌, ◌^◌, ◌≤◌, ◌<◌, min, Bool, true, false, cond, eqb, ltb, List, [], ◌∷◌, ◌++◌, length, get_or, drop, Result, Ok, Err, refl, sym, ap, subst, ◌∙◌, append_assoc, length-append, arith, inl, inr}
+use Rattle.std.proofs.Common.{◌≡◌, ◌≢◌, ◌⊎◌, ℕ, zero, suc, ◌+◌, ◌-◌, ◌*◌, ◌≤◌, ◌<◌, Bool, true, false, eqb, ltb, List, [], ◌∷◌, length, get_or, drop, Result, Ok, Err, refl, sym, ap, subst, ◌∙◌, length-append, arith, inl, inr}
 use Rattle.std.specs.List.{concat, AllByRecursion}
 use Rattle.std.proofs.lemmas.Bool.{eqb-true, eqb-false, ltb-true, ltb-false, lt-ltb, le-ltb, eq-eqb, ne_eqb}
 use Rattle.std.proofs.lemmas.List.{drop_more, drop_all}
@@ -7,7 +7,7 @@ use Rattle.localisation.specs.Agreement.{modulus_at}
 use Rattle.std.specs.Global.{Vec}
 use Rattle.checkpoint.specs.Bodies.{numbers_of}
 use Rattle.checkpoint.specs.Readers.{shown_count, counts_fit, residues_fit}
-use Rattle.checkpoint.specs.Refusals.{IsFirstCount, IsFirstRefused}
+use Rattle.checkpoint.specs.Refusals.{IsFirstCount}
 use Rattle.checkpoint.specs.States.{AreBelow}
 use Rattle.checkpoint.specs.Steps.{◌>>=◌, keep}
 use Rattle.checkpoint.specs.declared.error.CheckpointError.{CheckpointError}

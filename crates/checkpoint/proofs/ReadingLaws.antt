@@ -1,13 +1,12 @@
 -- The reading of a text gives a state exactly if the text is one of the state, and a refusal exactly if it is that of
 -- the text.
-use Rattle.std.proofs.Common.{◌≡◌, ◌≢◌, ℕ, ◌≤◌, ◌<◌, Bool, true, false, cond, ltb, List, length, Result, Ok, Err, refl, sym, ap, subst, ◌∙◌, arith, inl, inr}
+use Rattle.std.proofs.Common.{◌≡◌, ◌≢◌, ℕ, ◌<◌, true, false, ltb, List, length, Result, Ok, Err, refl, sym, ap, subst, ◌∙◌, arith, inl, inr}
 use Rattle.std.specs.Prelude.{IfOk, IfErr}
 use Rattle.std.proofs.lemmas.Bool.{ltb-true, ltb-false, lt-ltb, le-ltb}
 use Rattle.sha2.specs.Sha256.{sha256}
-use Rattle.problem.specs.Rules.{ProblemView}
 use Rattle.problem.specs.Sums.{count_of}
-use Rattle.checkpoint.specs.Readers.{contents_at, written_at, state_of, short_reading, checkpoint_reading}
-use Rattle.checkpoint.specs.Refusals.{Fits, Parts, HasParts, IsKnownVersion, Writes, IsFirstCount, IsRefusal}
+use Rattle.checkpoint.specs.Readers.{written_at, state_of, short_reading, checkpoint_reading}
+use Rattle.checkpoint.specs.Refusals.{Fits, IsKnownVersion, Writes, IsFirstCount, IsRefusal}
 use Rattle.checkpoint.specs.States.{StateView, IsState}
 use Rattle.checkpoint.specs.Steps.{◌>>=◌, Gives}
 use Rattle.checkpoint.specs.Texts.{Contents, IsTextOf}

@@ -1,5 +1,5 @@
 -- The rows that are read are those that were written, and what was written is read again.
-use Rattle.std.proofs.Common.{◌≡◌, ℕ, zero, suc, ◌+◌, ◌-◌, ◌*◌, ◌^◌, ◌≤◌, ◌<◌, Bool, true, false, cond, eqb, List, [], ◌∷◌, ◌++◌, length, take, drop, Option, Some, None, Result, Ok, Err, refl, sym, ap, subst, ◌∙◌, ◌⊎◌, inl, inr, append_assoc, length-append, length-take, length-drop, arith}
+use Rattle.std.proofs.Common.{◌≡◌, ℕ, zero, suc, ◌+◌, ◌-◌, ◌*◌, ◌^◌, ◌≤◌, ◌<◌, Bool, true, false, cond, eqb, List, [], ◌∷◌, ◌++◌, length, take, drop, Result, Ok, Err, refl, sym, ap, subst, ◌∙◌, inl, inr, append_assoc, length-append, length-drop, arith}
 use Rattle.std.specs.Prelude.{codes, decimal, ok_or}
 use Rattle.std.specs.List.{flat_map, AllByRecursion}
 use Rattle.std.proofs.lemmas.Bool.{eqb-false, ne_eqb}
@@ -10,7 +10,7 @@ use Rattle.checkpoint.specs.Steps.{◌>>=◌}
 use Rattle.checkpoint.specs.Texts.{residue_text, residue_line, rows_of}
 use Rattle.checkpoint.specs.declared.error.CheckpointError.{CheckpointError}
 use Rattle.checkpoint.specs.declared.error.CheckpointError.TheVariants.{BadBody}
-use Rattle.checkpoint.proofs.WordLaws.{bind_ok, bind_err, ok_or_ok, ok_or_err, chosen, after_word_takes, after_word_again}
+use Rattle.checkpoint.proofs.WordLaws.{bind_ok, bind_err, ok_or_ok, ok_or_err, chosen, after_word_takes}
 use Rattle.checkpoint.proofs.Decimals.{starts_digit, decimal_takes, decimal_again}
 use Rattle.checkpoint.proofs.Loops.{Reader}
 

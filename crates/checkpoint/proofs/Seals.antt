@@ -1,5 +1,5 @@
 -- The last line: the digest that is read is the one that it keeps, and a digest that was written is read again.
-use Rattle.std.proofs.Common.{◌≡◌, ℕ, ◌+◌, ◌-◌, ◌*◌, ◌≤◌, ◌<◌, Bool, true, false, cond, List, [], ◌∷◌, ◌++◌, length, take, drop, Option, Some, None, Result, Ok, Err, refl, sym, ap, ◌∙◌, append_assoc, length-append, arith}
+use Rattle.std.proofs.Common.{◌≡◌, ℕ, ◌+◌, ◌-◌, true, cond, List, [], ◌++◌, length, take, drop, Some, None, Result, Ok, Err, refl, sym, ap, ◌∙◌, append_assoc, length-append, arith}
 use Rattle.std.specs.Prelude.{bytes_eq, option_map, codes}
 use Rattle.std.specs.Result.{result_ok}
 use Rattle.std.proofs.lemmas.List.{take_at, drop_at, take-append-drop}
@@ -11,7 +11,7 @@ use Rattle.hex.proofs.HexLemmas.{length-encode_with, decode_of-ok, decode_sized-
 use Rattle.checkpoint.specs.Readers.{and_then, after_word, before_word, digest_of, unsealed_at}
 use Rattle.checkpoint.specs.Refusals.{IsDigest}
 use Rattle.checkpoint.specs.Texts.{seal}
-use Rattle.checkpoint.proofs.WordLaws.{and_then_some, option_map_some, after_word_takes, after_word_again, before_word_takes, before_word_again}
+use Rattle.checkpoint.proofs.WordLaws.{and_then_some, option_map_some, after_word_takes, before_word_takes, before_word_again}
 
 result_ok_some : (r : Result (List ℕ) FromHexError) (x : List ℕ) → result_ok r ≡ Some x → r ≡ Ok x
 result_ok_some (Ok y) x h = cc

@@ -1,22 +1,22 @@
 -- What is read against a problem: the state, or the first refusal.
-use Rattle.std.proofs.Common.{◌≡◌, ◌≢◌, ◌⊎◌, ℕ, zero, suc, ◌+◌, ◌-◌, ◌*◌, ◌^◌, ◌≤◌, ◌<◌, min, Bool, true, false, cond, eqb, leb, ltb, List, [], ◌∷◌, ◌++◌, length, get_or, take, drop, Result, Ok, Err, refl, sym, ap, subst, ◌∙◌, append_assoc, length-append, arith, inl, inr}
-use Rattle.std.specs.List.{concat, flat_map, AllByRecursion}
+use Rattle.std.proofs.Common.{◌≡◌, ◌≢◌, ℕ, ◌+◌, ◌-◌, ◌≤◌, ◌<◌, true, false, eqb, leb, List, [], ◌∷◌, length, get_or, take, drop, Result, Ok, Err, refl, sym, ap, subst, ◌∙◌, arith, inl, inr}
+use Rattle.std.specs.List.{concat, AllByRecursion}
 use Rattle.std.proofs.lemmas.Bool.{eqb-true, eqb-false, leb-true, leb-false, le-leb, lt-leb, eq-eqb, ne_eqb}
 use Rattle.std.proofs.lemmas.List.{take_at, drop_at}
 use Rattle.localisation.specs.Agreement.{modulus_at}
 use Rattle.problem.specs.Rules.{ProblemView}
-use Rattle.problem.specs.Sums.{count_of, places_of}
+use Rattle.problem.specs.Sums.{count_of}
 use Rattle.problem_toml.specs.Reading.{reading}
 use Rattle.problem_toml.specs.declared.error.ProblemError.{ProblemError}
 use Rattle.checkpoint.specs.Readers.{problem_of, shown_count, counts_fit, residues_fit, state_of}
-use Rattle.checkpoint.specs.Refusals.{Fits, IsRow, AreContents, Writes, WritesFor, HasNext, HasRows, HasResidues, IsFirstCount, IsFirstRefused, IsRefusal}
-use Rattle.checkpoint.specs.States.{StateView, AreBelow, AreResidues, IsState}
+use Rattle.checkpoint.specs.Refusals.{Writes, WritesFor, HasNext, HasRows, HasResidues, IsFirstCount, IsFirstRefused, IsRefusal}
+use Rattle.checkpoint.specs.States.{StateView}
 use Rattle.checkpoint.specs.Steps.{◌>>=◌, keep}
-use Rattle.checkpoint.specs.Texts.{Contents, number_line, source_text, residue_text, residue_line, body_of, seal, rows_of, contents_in, text_of, text_in, IsTextOf}
+use Rattle.checkpoint.specs.Texts.{Contents, rows_of, text_of, text_in, IsTextOf}
 use Rattle.checkpoint.specs.declared.error.CheckpointError.{CheckpointError}
 use Rattle.checkpoint.specs.declared.error.CheckpointError.TheVariants.{ProblemRefused, NextTooLarge, LineCount, ResidueCount, ResidueRefused}
-use Rattle.checkpoint.proofs.Fits.{keep_ok, keep_err, counts_fit_each, counts_fit_from, each_joined, counts_fit_other, counts_fit_at, residues_below, residues_fit_from, residues_fit_above, residues_fit_at}
-use Rattle.checkpoint.proofs.RowLaws.{rows_long, same_ok, same_err}
+use Rattle.checkpoint.proofs.Fits.{keep_ok, keep_err, counts_fit_each, counts_fit_from, counts_fit_other, counts_fit_at, residues_fit_above, residues_fit_at}
+use Rattle.checkpoint.proofs.RowLaws.{same_ok}
 use Rattle.checkpoint.proofs.TextLaws.{sizes}
 use Rattle.checkpoint.proofs.WordLaws.{bind_ok, bind_err}
 

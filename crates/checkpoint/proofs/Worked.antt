@@ -1,5 +1,5 @@
 -- The definitions, computed on a worked text: 227 bytes and a last line of 72.
-use Rattle.std.proofs.Common.{◌≡◌, ℕ, List, [], ◌∷◌, ◌++◌, length, refl}
+use Rattle.std.proofs.Common.{◌≡◌, [], ◌∷◌, ◌++◌, length, refl}
 use Rattle.std.specs.Prelude.{codes}
 use Rattle.std.specs.Fmt.{digits}
 use Rattle.checkpoint.specs.Texts.{Contents, body_of}

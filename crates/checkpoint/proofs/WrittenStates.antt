@@ -1,5 +1,5 @@
 -- What a state writes is read as the state, and is short enough.
-use Rattle.std.proofs.Common.{◌≡◌, ◌≢◌, ◌⊎◌, ℕ, zero, suc, ◌+◌, ◌-◌, ◌*◌, ◌%◌, ◌^◌, ◌≤◌, ◌<◌, Bool, true, false, cond, ltb, List, [], ◌∷◌, ◌++◌, length, get_or, take, drop, Result, Ok, Err, refl, sym, ap, subst, ◌∙◌, append_assoc, length-append, length-take, length-drop, get_or-take, get_or-drop, arith, inl, inr}
+use Rattle.std.proofs.Common.{◌≡◌, ◌⊎◌, ℕ, zero, suc, ◌+◌, ◌-◌, ◌*◌, ◌%◌, ◌^◌, ◌≤◌, ◌<◌, Bool, true, false, cond, ltb, List, [], ◌∷◌, ◌++◌, length, get_or, take, drop, Result, Ok, Err, refl, sym, ap, subst, ◌∙◌, length-append, length-take, length-drop, get_or-take, get_or-drop, arith, inl, inr}
 use Rattle.std.specs.Prelude.{codes, decimal, All}
 use Rattle.std.specs.List.{concat, flat_map, AllByRecursion}
 use Rattle.std.proofs.lemmas.Bool.{ltb-false}
@@ -7,17 +7,14 @@ use Rattle.std.proofs.lemmas.Fmt.{length-decimal-le}
 use Rattle.std.proofs.lemmas.List.{take-append-drop, nil_from_length}
 use Rattle.sha2.specs.Sha256.{sha256}
 use Rattle.localisation.specs.Agreement.{modulus_at}
-use Rattle.residue.specs.Limits.{IsModulus}
-use Rattle.problem.specs.Rules.{ProblemView, KeepsRules}
-use Rattle.problem.specs.Sums.{count_of, places_of}
+use Rattle.problem.specs.Rules.{ProblemView}
 use Rattle.problem_toml.specs.Reading.{reading, reading_of_any_length}
 use Rattle.problem_toml.specs.declared.error.ProblemError.{ProblemError}
 use Rattle.problem_toml.specs.declared.error.ProblemError.TheVariants as problem_errors
 use Rattle.checkpoint.specs.Readers.{problem_of, counts_fit, residues_fit, state_of}
 use Rattle.checkpoint.specs.Refusals.{Fits, IsRow, IsKnownVersion, AreContents, Writes}
-use Rattle.checkpoint.specs.States.{StateView, AreBelow, AreResidues, IsState}
-use Rattle.checkpoint.specs.Texts.{Contents, number_line, source_text, residue_text, residue_line, body_of, seal, rows_of, contents_in, text_of, text_in, IsTextOf}
-use Rattle.checkpoint.specs.declared.error.CheckpointError.{CheckpointError}
+use Rattle.checkpoint.specs.States.{StateView, IsState}
+use Rattle.checkpoint.specs.Texts.{Contents, number_line, source_text, residue_text, residue_line, body_of, seal, rows_of, contents_in, text_in, IsTextOf}
 use Rattle.checkpoint.proofs.Fits.{counts_fit_from, residues_fit_from}
 use Rattle.checkpoint.proofs.Seals.{length-seal}
 use Rattle.checkpoint.proofs.StateLaws.{at_state}

@@ -1,5 +1,5 @@
 -- Steps of which the first that fails is the answer.
-use Rattle.std.specs.Prelude.{◌≡◌, ◌≢◌, Bool, Option, Some, None, Result, Ok, Err, if◌then◌else◌}
+use Rattle.std.specs.Prelude.{◌≡◌, ◌≢◌, Bool, Result, Ok, Err, if◌then◌else◌}
 use Rattle.checkpoint.specs.declared.error.CheckpointError.{CheckpointError}
 use Rattle.checkpoint.specs.declared.error.CheckpointError.TheVariants.{NoMemory}
 

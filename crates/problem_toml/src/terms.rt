@@ -7,10 +7,10 @@ ghost use Rattle.problem_toml.specs.Steps.{Gives};
 ghost use Rattle.problem_toml.specs.Tables.{tables_among};
 ghost use Rattle.problem_toml.specs.Terms.{term_of, terms_from};
 
-use crate::powers::powers;
 use crate::error::ProblemError;
 use crate::name::Name;
 use crate::place::Place;
+use crate::powers::powers;
 use crate::table::{check, check_count, check_known, find, integer_or, tables, value_at};
 use crate::version::Version;
 use residue::{Powers, Term};

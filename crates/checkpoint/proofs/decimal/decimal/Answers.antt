@@ -1,5 +1,5 @@
 use Rattle.std.proofs.Common.{◌≡◌, ℕ, ◌<◌, List, length, option_map, Option, Some, None, IfSome, Bor, sym, ◌∙◌}
-use Rattle.checkpoint.specs.Readers.{decimal_at, number_from, starts_decimal}
+use Rattle.checkpoint.specs.Readers.{decimal_at, starts_decimal}
 use Rattle.checkpoint.proofs.Decimals.{decimal_shorter}
 use Rattle.checkpoint.proofs.decimal.decimal.Goals as goal
 

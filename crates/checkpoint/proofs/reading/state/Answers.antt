@@ -1,12 +1,10 @@
 -- The problem is read first. Then each test in its order gives the refusal of its own cause, and the tests before it
 -- rule out those that come earlier.
-use Rattle.std.proofs.Common.{◌≡◌, ◌≢◌, ◌≤◌, ℕ, Ok, Err, ap, sym, ◌∙◌, length, arith}
-use Rattle.std.specs.List.{concat}
+use Rattle.std.proofs.Common.{◌≡◌, ◌≢◌, ◌≤◌, length, arith}
 use Rattle.std.proofs.lemmas.Result.{err_from_is_err_and}
 use Rattle.problem.specs.Problems as problems
 use Rattle.problem.specs.Sums.{count_of}
 use Rattle.checkpoint.specs.Bodies.{contents_of, numbers_of}
-use Rattle.checkpoint.specs.Readers.{counts_fit, residues_fit}
 use Rattle.checkpoint.proofs.Fits.{numbers_count}
 use Rattle.checkpoint.proofs.StateLaws.{at_lines, at_counts, at_residues, at_state}
 use Rattle.checkpoint.proofs.reading.state.Goals as goal

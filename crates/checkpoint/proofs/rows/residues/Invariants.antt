@@ -1,4 +1,4 @@
-use Rattle.std.proofs.Common.{ℕ, length}
+use Rattle.std.proofs.Common.{length}
 use Rattle.checkpoint.specs.Readers.{starts_with_space, residue_at}
 use Rattle.checkpoint.proofs.Loops.{Continues}
 use Rattle.checkpoint.proofs.rows.residues.Given as goal

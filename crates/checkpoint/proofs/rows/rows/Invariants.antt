@@ -1,4 +1,4 @@
-use Rattle.std.proofs.Common.{ℕ, length}
+use Rattle.std.proofs.Common.{length}
 use Rattle.checkpoint.specs.Bodies.{numbers_of}
 use Rattle.checkpoint.specs.Readers.{goes_on, row_at}
 use Rattle.checkpoint.proofs.Loops.{Continues}
