@@ -191,5 +191,4 @@ returns-in_err-residue-clause-cause c =
 pub returns-in_err-residue-clause-edges : goal.returns-in_err-residue-clause-edges
 returns-in_err-residue-clause-edges c =
     let s = c.args.self.now in
-    tree_later s.problem.now s.table.now _ _
-    (tree_view c.args.tree.now) c.residue.ensures.seat c.loop-modulus.invariant.edges
+    tree_later (view s.problem.now) s.table.now _ _ (tree_view c.args.tree.now) c.residue.ensures.seat c.loop-modulus.invariant.edges
