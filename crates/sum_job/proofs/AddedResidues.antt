@@ -1,13 +1,9 @@
 -- Residues that are added to the residues of sums, one index after the other, each modulo its own modulus.
-use Rattle.std.proofs.Common.{◌≡◌, ◌≢◌, ℕ, zero, suc, ◌+◌, ◌*◌, ◌%◌, ◌<◌, ◌≤◌, List, length, get_or, set, slice_index, replicate, refl, sym, ap, ◌∙◌, subst, arith, ⊎_elim, mul-le-mul, mod-lt, pos, Some}
+use Rattle.std.proofs.Common.{◌≡◌, ◌≢◌, ℕ, ◌+◌, ◌*◌, ◌%◌, ◌<◌, ◌≤◌, List, length, get_or, set, slice_index, sym, ap, ◌∙◌, subst, arith, ⊎_elim, mul-le-mul, mod-lt, Some}
 use Rattle.std.specs.List.{slice_get}
 use Rattle.std.proofs.lemmas.Bool.{cases_eq}
 use Rattle.std.proofs.lemmas.List.{get_or-set_same, get_or-set_other}
 use Rattle.std.proofs.lemmas.Option.{get_or_from_slice_get}
-use Rattle.std.proofs.Math.Nat.{mod-eq_of_lt}
-use Rattle.arithmetic.specs.Fractions.{fraction, IsResidue}
-use Rattle.arithmetic.proofs.ReduceLaws.{reduce-pos}
-use Rattle.arithmetic.proofs.Residues.{IsResidue-from, unit_one}
 use Rattle.localisation.specs.Agreement.{modulus_at}
 use Rattle.problem.specs.Rules.{ProblemView, KeepsRules}
 use Rattle.problem.specs.Sums.{places_of}
