@@ -1,7 +1,6 @@
 -- Sums over consecutive numbers, one after the other.
-use Rattle.std.proofs.Common.{◌≡◌, ℕ, ◌+◌, ◌%◌, ◌<◌, ◌≤◌, Bool, List, slice_index, sym, ap, ◌∙◌, subst, arith, ⊎_elim}
+use Rattle.std.proofs.Common.{◌≡◌, ℕ, ◌+◌, ◌%◌, ◌<◌, ◌≤◌, List, slice_index, sym, ap, ◌∙◌, subst, arith}
 use Rattle.std.proofs.Math.Nat.{add-mod-mod, mod-eq_of_lt}
-use Rattle.std.proofs.lemmas.Bool.{cases_lt}
 use Rattle.arithmetic.specs.Fractions.{plus, IsResidue}
 use Rattle.arithmetic.proofs.Residues.{IsResidue-plus, residue_of_zero}
 use Rattle.localisation.specs.Contribution.{partial_sum}
