@@ -1,7 +1,7 @@
 mod Answers
-pub mod Built
 pub mod Consequences
 mod Names
 mod Rules
 pub mod Sound
+mod Within
 mod Worked

@@ -6,6 +6,7 @@ mod command;
 mod files;
 mod reading;
 mod requests;
+mod rows;
 mod table;
 
 pub use command::{Command, RunRequest};

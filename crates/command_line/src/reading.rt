@@ -1,6 +1,8 @@
 //! Reading the words of the command line.
-ghost use Rattle.std.specs.Prelude.{map, string_bytes};
+ghost use Rattle.std.specs.Prelude.{map, string_bytes, IfOk};
 ghost use Rattle.command_line.specs.Asked.{IsReading};
+ghost use Rattle.command_line.specs.Limits.{IsWithin};
+ghost use Rattle.command_line.specs.Requests.{request_of};
 
 use crate::command::Command;
 use crate::requests::request;
@@ -20,7 +22,9 @@ pub fn read<'a>(
     commands: Commands,
     words: &'a [String],
 ) -> Result<Command<'a>, WordsError>
-    ensures { IsReading commands (map string_bytes words.now) result }
+    ensures reading { IsReading commands (map string_bytes words.now) result }
+    // What is asked is within its limits.
+    ensures within { IfOk result (λ command. IsWithin (request_of command)) }
 {
     let given = command_words::read(alloc, commands.program(), words)?;
     match request(given) {
