@@ -27,8 +27,11 @@ pub record SourceIn (text source rest : List ℕ) : Type 0 where
 source_takes : (text source rest : List ℕ) → source_at text ≡ Some (source, rest) → SourceIn text source rest
 unfolding source_at
 source_takes text source rest h =
-    let found : ℕ × List ℕ → Option (List ℕ × List ℕ) = λ x. option_map (λ rest. (take x.0 x.1, rest)) (after_word (codes "\n") (drop x.0 x.1)) in
-    let a = and_then_some (number_line_at (codes "problem ") text) (λ x. cond (ltb (length x.1) x.0) None (found x)) (source, rest) h in
+    let found : ℕ × List ℕ → Option (List ℕ × List ℕ) =
+        λ x. option_map (λ rest. (take x.0 x.1, rest)) (after_word (codes "\n") (drop x.0 x.1)) in
+    let a =
+        and_then_some (number_line_at (codes "problem ") text) (λ x. cond (ltb (length x.1) x.0) None (found x))
+        (source, rest) h in
     let n = a.0.0 in
     let more = a.0.1 in
     let first = number_line_takes (codes "problem ") text n more a.1 in
@@ -36,7 +39,9 @@ source_takes text source rest h =
       | inl short ↦ absurd (cc short.1)
       | inr long ↦
           let enough : n ≤ length more = ltb-false _ _ long.0 in
-          let e = option_map_some (after_word (codes "\n") (drop n more)) (λ rest. (take n more, rest)) (source, rest) long.1 in
+          let e =
+              option_map_some (after_word (codes "\n") (drop n more)) (λ rest. (take n more, rest))
+              (source, rest) long.1 in
           let second = after_word_takes (codes "\n") (drop n more) e.0 e.1 in
           let len : length (take n more) ≡ n = omega (arith, length-take n more) in
           let regrouped : number_line (codes "problem ") n ++ (take n more ++ (codes "\n" ++ e.0)) ≡ (number_line (codes "problem ") n ++ take n more ++ codes "\n") ++ e.0 = simp append_assoc in
@@ -48,13 +53,18 @@ source_takes text source rest h =
           })
     ]
 
-source_again : (source rest : List ℕ) → length source < 2 ^ 64 → source_at (source_text source ++ rest) ≡ Some (source, rest)
+source_again : (source rest : List ℕ) → length source < 2 ^ 64
+    → source_at (source_text source ++ rest) ≡ Some (source, rest)
 unfolding source_at
 source_again source rest small =
     let n = length source in
-    let regrouped : source_text source ++ rest ≡ number_line (codes "problem ") n ++ (source ++ (codes "\n" ++ rest)) = simp append_assoc in
-    let long : ltb (length (source ++ (codes "\n" ++ rest))) n ≡ false = le-ltb _ _ (omega (arith, length-append source (codes "\n" ++ rest))) in
-    ap source_at regrouped ∙ rw (number_line_again (codes "problem ") n (source ++ (codes "\n" ++ rest)) small, long, take_at source (codes "\n" ++ rest) n refl, drop_at source (codes "\n" ++ rest) n refl) refl
+    let regrouped : source_text source ++ rest ≡ number_line (codes "problem ") n ++ (source ++ (codes "\n" ++ rest)) =
+        simp append_assoc in
+    let long : ltb (length (source ++ (codes "\n" ++ rest))) n ≡ false =
+        le-ltb _ _ (omega (arith, length-append source (codes "\n" ++ rest))) in
+    ap source_at regrouped
+    ∙ rw
+    (number_line_again (codes "problem ") n (source ++ (codes "\n" ++ rest)) small, long, take_at source (codes "\n" ++ rest) n refl, drop_at source (codes "\n" ++ rest) n refl) refl
 
 -- ---- the lines after the first
 
@@ -66,7 +76,9 @@ regroup_four : (a s n f : List ℕ) → a ++ s ++ n ++ f ≡ a ++ (s ++ n ++ f)
 regroup_four a s n f = simp append_assoc
 
 pub body_is : (c : Contents) → body_of c ≡ number_line (codes "locus-checkpoint ") c.version ++ rest_of c
-body_is c = regroup_four (number_line (codes "locus-checkpoint ") c.version) (source_text c.source) (number_line (codes "next ") c.next) (flat_map residue_line c.rows)
+body_is c =
+    regroup_four (number_line (codes "locus-checkpoint ") c.version) (source_text c.source)
+    (number_line (codes "next ") c.next) (flat_map residue_line c.rows)
 
 some_rows : (v n : ℕ) → (eqb n 0 || (eqb v 1 && not (eqb n 1))) ≡ false → (1 ≤ n) × (v ≡ 1 → n ≡ 1)
 some_rows v n h =
@@ -91,18 +103,25 @@ abbrev made : ℕ → List ℕ → ℕ → List (List ℕ) → Contents
 made version source next rows = record { version = version; source = source; next = next; rows = rows }
 
 abbrev last_step : ℕ → List ℕ → ℕ → List (List ℕ) × List ℕ → Result Contents CheckpointError
-last_step version source next rows = cond (eqb (length rows.0) 0 || (eqb version 1 && not (eqb (length rows.0) 1))) (Err BadBody) (Ok (made version source next rows.0))
+last_step version source next rows =
+    cond (eqb (length rows.0) 0 || (eqb version 1 && not (eqb (length rows.0) 1))) (Err BadBody)
+    (Ok (made version source next rows.0))
 
 pub record ContentsIn (version : ℕ) (text : List ℕ) (c : Contents) : Type 0 where
   pub version_is : c.version ≡ version
   pub parts : text ≡ rest_of c
   pub contents : AreContents c
 
-pub contents_take : (version : ℕ) (text : List ℕ) (c : Contents) → IsKnownVersion version → contents_at version text ≡ Ok c → ContentsIn version text c
+pub contents_take : (version : ℕ) (text : List ℕ) (c : Contents) → IsKnownVersion version
+    → contents_at version text ≡ Ok c → ContentsIn version text c
 unfolding contents_at
 contents_take version text c known h =
-    let a = bind_ok (ok_or (source_at text) BadBody) (λ source. ok_or (number_line_at (codes "next ") source.1) BadBody >>= (λ next. rows_at next.1 >>= (λ rows. last_step version source.0 next.0 rows))) c h in
-    let b = bind_ok (ok_or (number_line_at (codes "next ") a.0.1) BadBody) (λ next. rows_at next.1 >>= (λ rows. last_step version a.0.0 next.0 rows)) c a.2 in
+    let a =
+        bind_ok (ok_or (source_at text) BadBody)
+        (λ source. ok_or (number_line_at (codes "next ") source.1) BadBody >>= (λ next. rows_at next.1 >>= (λ rows. last_step version source.0 next.0 rows))) c h in
+    let b =
+        bind_ok (ok_or (number_line_at (codes "next ") a.0.1) BadBody)
+        (λ next. rows_at next.1 >>= (λ rows. last_step version a.0.0 next.0 rows)) c a.2 in
     let d = bind_ok (rows_at b.0.1) (λ rows. last_step version a.0.0 b.0.0 rows) c b.2 in
     let first = source_takes text a.0.0 a.0.1 (ok_or_ok _ _ _ a.1) in
     let second = number_line_takes (codes "next ") a.0.1 b.0.0 b.0.1 (ok_or_ok _ _ _ b.1) in
@@ -113,7 +132,10 @@ contents_take version text c known h =
           let counts = some_rows version (length d.0.0) good.0 in
           subst (ContentsIn version text) (same_ok (made version a.0.0 b.0.0 d.0.0) c good.1) (record {
             version_is = refl;
-            parts = first.parts ∙ ap (λ (t : List ℕ). source_text a.0.0 ++ t) (second.parts ∙ ap (λ (t : List ℕ). number_line (codes "next ") b.0.0 ++ t) third.parts)
+            parts =
+                first.parts
+                ∙ ap (λ (t : List ℕ). source_text a.0.0 ++ t)
+                (second.parts ∙ ap (λ (t : List ℕ). number_line (codes "next ") b.0.0 ++ t) third.parts)
                 ∙ sym (append_assoc (source_text a.0.0) (number_line (codes "next ") b.0.0) (flat_map residue_line d.0.0));
             contents = record { version = known; source = first.fits; next = second.fits; rows = third.fit; some = counts.0; one = counts.1 };
           })
@@ -123,7 +145,8 @@ pub contents_again : (c : Contents) → AreContents c → contents_at c.version 
 unfolding contents_at
 contents_again c are =
     let after = number_line (codes "next ") c.next ++ flat_map residue_line c.rows in
-    let regrouped : rest_of c ≡ source_text c.source ++ after = append_assoc (source_text c.source) (number_line (codes "next ") c.next) (flat_map residue_line c.rows) in
+    let regrouped : rest_of c ≡ source_text c.source ++ after =
+        append_assoc (source_text c.source) (number_line (codes "next ") c.next) (flat_map residue_line c.rows) in
     ap (contents_at c.version) regrouped ∙ rw (
       source_again c.source after are.source,
       number_line_again (codes "next ") c.next (flat_map residue_line c.rows) are.next,
@@ -181,7 +204,8 @@ bytes_same xs ys h = (bytes_eq-Decides xs ys).1 h
 bytes_differ : (xs ys : List ℕ) → xs ≢ ys → bytes_eq xs ys ≡ false
 bytes_differ xs ys h = false_from_ne_true _ (λ same. h ((bytes_eq-Decides xs ys).0 same))
 
-pub parts_take : (text body kept : List ℕ) (v : ℕ) (rest : List ℕ) → unsealed_at text ≡ Some (body, kept) → number_line_at (codes "locus-checkpoint ") body ≡ Some (v, rest)
+pub parts_take : (text body kept : List ℕ) (v : ℕ) (rest : List ℕ) → unsealed_at text ≡ Some (body, kept)
+    → number_line_at (codes "locus-checkpoint ") body ≡ Some (v, rest)
     → HasParts text (record { kept = kept; body = body; version = v; rest = rest })
 parts_take text body kept v rest sealed first =
     let s = unsealed_takes text body kept sealed in
@@ -191,10 +215,14 @@ parts_take text body kept v rest sealed first =
 pub parts_sealed : (text : List ℕ) (p : Parts) → HasParts text p → unsealed_at text ≡ Some (p.body, p.kept)
 parts_sealed text p has = ap unsealed_at has.whole ∙ unsealed_again p.body p.kept has.digest
 
-pub parts_first : (text : List ℕ) (p : Parts) → HasParts text p → number_line_at (codes "locus-checkpoint ") p.body ≡ Some (p.version, p.rest)
-parts_first text p has = ap (number_line_at (codes "locus-checkpoint ")) has.first_line ∙ number_line_again (codes "locus-checkpoint ") p.version p.rest has.version
+pub parts_first : (text : List ℕ) (p : Parts) → HasParts text p
+    → number_line_at (codes "locus-checkpoint ") p.body ≡ Some (p.version, p.rest)
+parts_first text p has =
+    ap (number_line_at (codes "locus-checkpoint ")) has.first_line
+    ∙ number_line_again (codes "locus-checkpoint ") p.version p.rest has.version
 
-parts_written : (text : List ℕ) (p : Parts) → HasParts text p → written_at text ≡ sound_at p.kept p.body p.version p.rest
+parts_written : (text : List ℕ) (p : Parts) → HasParts text p
+    → written_at text ≡ sound_at p.kept p.body p.version p.rest
 unfolding written_at
 parts_written text p has = rw (parts_sealed text p has, parts_first text p has) refl
 
@@ -204,13 +232,17 @@ pub written_without_parts : (text : List ℕ) → ((p : Parts) → ¬ (HasParts 
 unfolding written_at
 written_without_parts text none = by_seal (unsealed_at text) refl
   where
-    by_first : (body kept : List ℕ) → unsealed_at text ≡ Some (body, kept) → (o : Option (ℕ × List ℕ)) → number_line_at (codes "locus-checkpoint ") body ≡ o
+    by_first : (body kept : List ℕ) → unsealed_at text ≡ Some (body, kept) → (o : Option (ℕ × List ℕ))
+        → number_line_at (codes "locus-checkpoint ") body ≡ o
         → (ok_or o NotCheckpoint >>= (λ first. sound_at kept body first.0 first.1)) ≡ Err NotCheckpoint
     by_first body kept sealed None h = refl
-    by_first body kept sealed (Some x) h = absurd (none (record { kept = kept; body = body; version = x.0; rest = x.1 }) (parts_take text body kept x.0 x.1 sealed h))
+    by_first body kept sealed (Some x) h =
+        absurd
+        (none (record { kept = kept; body = body; version = x.0; rest = x.1 }) (parts_take text body kept x.0 x.1 sealed h))
 
     by_seal : (o : Option (List ℕ × List ℕ)) → unsealed_at text ≡ o
-        → (ok_or o NotCheckpoint >>= (λ sealed. ok_or (number_line_at (codes "locus-checkpoint ") sealed.0) NotCheckpoint >>= (λ first. sound_at sealed.1 sealed.0 first.0 first.1))) ≡ Err NotCheckpoint
+        → (ok_or o NotCheckpoint >>= (λ sealed. ok_or (number_line_at (codes "locus-checkpoint ") sealed.0) NotCheckpoint >>= (λ first. sound_at sealed.1 sealed.0 first.0 first.1)))
+            ≡ Err NotCheckpoint
     by_seal None h = refl
     by_seal (Some x) h = by_first x.0 x.1 h (number_line_at (codes "locus-checkpoint ") x.0) refl
 
@@ -222,8 +254,10 @@ module _ (text : List ℕ) (p : Parts) (has : HasParts text p) where
   module _ (sound : p.kept ≡ sha256 p.body) where
     pub written_of_version : ¬ (IsKnownVersion p.version) → written_at text ≡ Err (BadVersion p.version)
     unfolding sound_at
-    written_of_version other = parts_written text p has ∙ rw (bytes_same p.kept (sha256 p.body) sound, test_unknown p.version other) refl
+    written_of_version other =
+        parts_written text p has ∙ rw (bytes_same p.kept (sha256 p.body) sound, test_unknown p.version other) refl
 
     pub written_sound : IsKnownVersion p.version → written_at text ≡ contents_at p.version p.rest
     unfolding sound_at
-    written_sound known = parts_written text p has ∙ rw (bytes_same p.kept (sha256 p.body) sound, test_known p.version known) refl
+    written_sound known =
+        parts_written text p has ∙ rw (bytes_same p.kept (sha256 p.body) sound, test_known p.version known) refl

@@ -38,7 +38,8 @@ pub record Numbered (n : ℕ) (text : List ℕ) (v : ℕ) (rest : List ℕ) : Ty
   pub fits : v < 2 ^ 64
   pub ends : starts_digit rest ≡ false
 
-Numbered-more : (n b : ℕ) (bs : List ℕ) (v : ℕ) (rest : List ℕ) → is_digit b ≡ true → Numbered (n * 10 + (b - 48)) bs v rest → Numbered n (b ∷ bs) v rest
+Numbered-more : (n b : ℕ) (bs : List ℕ) (v : ℕ) (rest : List ℕ) → is_digit b ≡ true
+    → Numbered (n * 10 + (b - 48)) bs v rest → Numbered n (b ∷ bs) v rest
 Numbered-more n b bs v rest d more = record {
   digits = b ∷ more.digits;
   all = and_from _ _ d more.all;
@@ -48,7 +49,8 @@ Numbered-more n b bs v rest d more = record {
   ends = more.ends;
 }
 
-pub number_takes : (n : ℕ) (text : List ℕ) (v : ℕ) (rest : List ℕ) → n < 2 ^ 64 → number_from n text ≡ Some (v, rest) → Numbered n text v rest
+pub number_takes : (n : ℕ) (text : List ℕ) (v : ℕ) (rest : List ℕ) → n < 2 ^ 64 → number_from n text ≡ Some (v, rest)
+    → Numbered n text v rest
 number_takes n [] v rest small h =
     let p = some_pair_parts n v [] rest h in
     record { digits = []; all = refl; parts = p.1; value = sym p.0; fits = omega (arith, p.0); ends = ap starts_digit (sym p.1) }
@@ -69,7 +71,8 @@ number_at_end : (n : ℕ) (rest : List ℕ) → starts_digit rest ≡ false → 
 number_at_end n [] ends = refl
 number_at_end n (b ∷ bs) ends = rw ends refl
 
-pub number_again : (n : ℕ) (ds rest : List ℕ) → are_digits ds ≡ true → read_on n ds < 2 ^ 64 → starts_digit rest ≡ false → number_from n (ds ++ rest) ≡ Some (read_on n ds, rest)
+pub number_again : (n : ℕ) (ds rest : List ℕ) → are_digits ds ≡ true → read_on n ds < 2 ^ 64 → starts_digit rest ≡ false
+    → number_from n (ds ++ rest) ≡ Some (read_on n ds, rest)
 number_again n [] rest all fits ends = number_at_end n rest ends
 number_again n (c ∷ cs) rest all fits ends =
     let parts = and_parts _ _ all in
@@ -97,7 +100,8 @@ no_lead d e h digit is =
     let q = p.1 in
     false≢true (rw (zero_first, digit) at q)
 
-digits_plain : (ds rest : List ℕ) → are_digits ds ≡ true → starts_digit rest ≡ false → starts_decimal (ds ++ rest) ≡ true → IsPlain ds
+digits_plain : (ds rest : List ℕ) → are_digits ds ≡ true → starts_digit rest ≡ false
+    → starts_decimal (ds ++ rest) ≡ true → IsPlain ds
 digits_plain [] rest all ends h = absurd (false≢true (sym ends ∙ starts_with_one rest h))
 digits_plain (d ∷ []) rest all ends h = record { some = omega arith; plain = λ _. refl }
 digits_plain (d ∷ e ∷ es) rest all ends h = record {
@@ -105,7 +109,8 @@ digits_plain (d ∷ e ∷ es) rest all ends h = record {
   plain = λ is. absurd (no_lead d e h (and_parts _ _ (and_parts _ _ all).1).0 is);
 }
 
-plain_starts : (ds rest : List ℕ) → are_digits ds ≡ true → IsPlain ds → starts_digit rest ≡ false → starts_decimal (ds ++ rest) ≡ true
+plain_starts : (ds rest : List ℕ) → are_digits ds ≡ true → IsPlain ds → starts_digit rest ≡ false
+    → starts_decimal (ds ++ rest) ≡ true
 plain_starts [] rest all plain ends = absurd (omega (arith, plain.some))
 plain_starts (d ∷ []) [] all plain ends = (and_parts _ _ all).0
 plain_starts (d ∷ []) (b ∷ bs) all plain ends =
@@ -145,23 +150,30 @@ decimal_takes text n rest h =
       | inr other ↦ absurd cc
       | inl starts ↦
           let t = number_takes 0 text n rest (omega arith) starts.1 in
-          let here : starts_decimal (t.digits ++ rest) ≡ true = subst (λ (x : List ℕ). starts_decimal x ≡ true) t.parts starts.0 in
+          let here : starts_decimal (t.digits ++ rest) ≡ true =
+              subst (λ (x : List ℕ). starts_decimal x ≡ true) t.parts starts.0 in
           let plain = digits_plain t.digits rest t.all t.ends here in
-          let is : decimal n ≡ t.digits = ap decimal t.value ∙ decimal-digits_value own t.digits t.all plain.some plain.plain (omega (arith, t.value, t.fits)) in
+          let is : decimal n ≡ t.digits =
+              ap decimal t.value ∙ decimal-digits_value own t.digits t.all plain.some plain.plain
+              (omega (arith, t.value, t.fits)) in
           record { parts = t.parts ∙ ap (λ (d : List ℕ). d ++ rest) (sym is); fits = t.fits; ends = t.ends }
     ]
 
-pub decimal_again : (n : ℕ) (rest : List ℕ) → n < 2 ^ 64 → starts_digit rest ≡ false → decimal_at (decimal n ++ rest) ≡ Some (n, rest)
+pub decimal_again : (n : ℕ) (rest : List ℕ) → n < 2 ^ 64 → starts_digit rest ≡ false
+    → decimal_at (decimal n ++ rest) ≡ Some (n, rest)
 unfolding decimal_at
-decimal_again n rest small ends = go (decimal n) (digits_decimal own n small) (digits_value-decimal own n small) (decimal_plain n small)
+decimal_again n rest small ends =
+    go (decimal n) (digits_decimal own n small) (digits_value-decimal own n small) (decimal_plain n small)
   where
-    go : (ds : List ℕ) → are_digits ds ≡ true → read_on 0 ds ≡ n → IsPlain ds → cond (starts_decimal (ds ++ rest)) (number_from 0 (ds ++ rest)) None ≡ Some (n, rest)
+    go : (ds : List ℕ) → are_digits ds ≡ true → read_on 0 ds ≡ n → IsPlain ds
+        → cond (starts_decimal (ds ++ rest)) (number_from 0 (ds ++ rest)) None ≡ Some (n, rest)
     go ds all value plain =
         let starts = plain_starts ds rest all plain ends in
         let read = number_again 0 ds rest all (omega (arith, value, small)) ends in
         rw starts (read ∙ ap (λ (k : ℕ). Some (k, rest)) value)
 
-pub decimal_shorter : (text : List ℕ) (n : ℕ) (rest : List ℕ) → decimal_at text ≡ Some (n, rest) → length rest < length text
+pub decimal_shorter : (text : List ℕ) (n : ℕ) (rest : List ℕ) → decimal_at text ≡ Some (n, rest)
+    → length rest < length text
 decimal_shorter text n rest h =
     let d = decimal_takes text n rest h in
     omega (arith, ap length d.parts, length-append (decimal n) rest, decimal_nonempty n d.fits)
@@ -172,11 +184,17 @@ pub record LineAt (word text : List ℕ) (n : ℕ) (rest : List ℕ) : Type 0 wh
   pub parts : text ≡ number_line word n ++ rest
   pub fits : n < 2 ^ 64
 
-pub number_line_takes : (word text : List ℕ) (n : ℕ) (rest : List ℕ) → number_line_at word text ≡ Some (n, rest) → LineAt word text n rest
+pub number_line_takes : (word text : List ℕ) (n : ℕ) (rest : List ℕ) → number_line_at word text ≡ Some (n, rest)
+    → LineAt word text n rest
 unfolding number_line_at
 number_line_takes word text n rest h =
-    let a = and_then_some (after_word word text) (λ rest. and_then (decimal_at rest) (λ x. option_map (λ rest. (x.0, rest)) (after_word (codes "\n") x.1))) (n, rest) h in
-    let b = and_then_some (decimal_at a.0) (λ x. option_map (λ rest. (x.0, rest)) (after_word (codes "\n") x.1)) (n, rest) a.2 in
+    let a =
+        and_then_some (after_word word text)
+        (λ rest. and_then (decimal_at rest) (λ x. option_map (λ rest. (x.0, rest)) (after_word (codes "\n") x.1)))
+        (n, rest) h in
+    let b =
+        and_then_some (decimal_at a.0) (λ x. option_map (λ rest. (x.0, rest)) (after_word (codes "\n") x.1))
+        (n, rest) a.2 in
     let e = option_map_some (after_word (codes "\n") b.0.1) (λ rest. (b.0.0, rest)) (n, rest) b.2 in
     let number : b.0.0 ≡ n = ap (λ (p : ℕ × List ℕ). p.0) e.2 in
     let last : e.0 ≡ rest = ap (λ (p : ℕ × List ℕ). p.1) e.2 in
@@ -185,12 +203,17 @@ number_line_takes word text n rest h =
     let third = after_word_takes (codes "\n") b.0.1 e.0 e.1 in
     let regrouped : word ++ (decimal n ++ (codes "\n" ++ rest)) ≡ number_line word n ++ rest = simp append_assoc in
     record {
-      parts = first ∙ ap (λ (t : List ℕ). word ++ t) (second.parts ∙ ap (λ (k : ℕ). decimal k ++ b.0.1) number ∙ ap (λ (t : List ℕ). decimal n ++ t) (third ∙ ap (λ (t : List ℕ). codes "\n" ++ t) last)) ∙ regrouped;
+      parts = first
+          ∙ ap (λ (t : List ℕ). word ++ t) (second.parts ∙ ap (λ (k : ℕ). decimal k ++ b.0.1) number ∙ ap (λ (t : List ℕ). decimal n ++ t) (third ∙ ap (λ (t : List ℕ). codes "\n" ++ t) last))
+          ∙ regrouped;
       fits = omega (arith, second.fits, number);
     }
 
-pub number_line_again : (word : List ℕ) (n : ℕ) (rest : List ℕ) → n < 2 ^ 64 → number_line_at word (number_line word n ++ rest) ≡ Some (n, rest)
+pub number_line_again : (word : List ℕ) (n : ℕ) (rest : List ℕ) → n < 2 ^ 64
+    → number_line_at word (number_line word n ++ rest) ≡ Some (n, rest)
 unfolding number_line_at
 number_line_again word n rest small =
     let regrouped : number_line word n ++ rest ≡ word ++ (decimal n ++ (codes "\n" ++ rest)) = simp append_assoc in
-    ap (number_line_at word) regrouped ∙ rw (after_word_again word (decimal n ++ (codes "\n" ++ rest)), decimal_again n (codes "\n" ++ rest) small refl) refl
+    ap (number_line_at word) regrouped
+    ∙ rw
+    (after_word_again word (decimal n ++ (codes "\n" ++ rest)), decimal_again n (codes "\n" ++ rest) small refl) refl

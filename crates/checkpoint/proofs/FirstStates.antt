@@ -29,7 +29,8 @@ one_is_unit m = gcd_from_IsGcd 1 m 1 (dvd_refl 1, one-dvd m, λ d p q. p)
 
 residue_of_zero : (m : ℕ) → 1 < m → IsResidue m (fraction (pos 0) (pos 1)) 0
 residue_of_zero m h =
-    IsResidue-from m (fraction (pos 0) (pos 1)) 0 0 1 (omega arith) (reduce-pos m 0 ∙ mod-eq_of_lt (omega arith)) (reduce-pos m 1 ∙ mod-eq_of_lt h)
+    IsResidue-from m (fraction (pos 0) (pos 1)) 0 0 1 (omega arith) (reduce-pos m 0 ∙ mod-eq_of_lt (omega arith))
+    (reduce-pos m 1 ∙ mod-eq_of_lt h)
     (omega arith) (one_is_unit m) (mod-eq_of_lt (omega arith))
 
 at_least : (n k : ℕ) → k ≡ n → n ≤ k
@@ -42,9 +43,11 @@ first_is_true source p rules = record {
       let m = modulus_at p.moduli place in
       let above : 1 < m = modulus_above p rules place in
       let r : IsResidue m (fraction (pos 0) (pos 1)) 0 = residue_of_zero m above in
-      subst (λ f. IsResidue m f (slice_index (replicate (places_of p) 0) place)) (sym (partial_sum-none p.weights p.shape 0 (integral_at p.moduli p.integrals place)))
+      subst (λ f. IsResidue m f (slice_index (replicate (places_of p) 0) place))
+      (sym (partial_sum-none p.weights p.shape 0 (integral_at p.moduli p.integrals place)))
       (subst (λ x. IsResidue m (fraction (pos 0) (pos 1)) x) (sym (zeros (places_of p) place)) r);
 }
 
-pub true_along : (source : List ℕ) (p : ProblemView) (s : StateView) → KeepsRules p → s ≡ first_state source p → IsTrueState s
+pub true_along : (source : List ℕ) (p : ProblemView) (s : StateView) → KeepsRules p → s ≡ first_state source p
+    → IsTrueState s
 true_along source p s rules is = subst IsTrueState (sym is) (first_is_true source p rules)

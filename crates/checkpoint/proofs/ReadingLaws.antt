@@ -1,4 +1,4 @@
--- The reading of a text gives a state exactly where the text is one of the state, and a refusal exactly where it is that of
+-- The reading of a text gives a state exactly if the text is one of the state, and a refusal exactly if it is that of
 -- the text.
 use Rattle.std.proofs.Common.{◌≡◌, ◌≢◌, ℕ, ◌≤◌, ◌<◌, Bool, true, false, cond, ltb, List, length, Result, Ok, Err, refl, sym, ap, subst, ◌∙◌, arith, inl, inr}
 use Rattle.std.specs.Prelude.{IfOk, IfErr}
@@ -53,7 +53,8 @@ early text e fits h = let short : ltb 1052672 (length text) ≡ false = le-ltb _
 
 late : (text : List ℕ) (c : Contents) → Writes text c → checkpoint_reading text ≡ state_of c
 unfolding checkpoint_reading short_reading
-late text c w = let short : ltb 1052672 (length text) ≡ false = le-ltb _ _ w.fits in rw (short, written_again text c w) refl
+late text c w =
+    let short : ltb 1052672 (length text) ≡ false = le-ltb _ _ w.fits in rw (short, written_again text c w) refl
 
 pub state_is_read : (text : List ℕ) (s : StateView) → IsState s → IsTextOf s text → checkpoint_reading text ≡ Ok s
 state_is_read text s is has = let w = written_state s text is has in late text w.contents w.writes ∙ w.read
@@ -68,13 +69,17 @@ refusal_is_read text TooLong r = too_long text r
 refusal_is_read text NotCheckpoint r = early text NotCheckpoint r.0 (written_without_parts text r.1)
 refusal_is_read text (Damaged kept computed) r =
     let p = r.1 in
-    let is : ◌≡◌ {A = CheckpointError} (Damaged p.kept computed) (Damaged kept computed) = ap (λ (k : List ℕ). Damaged k computed) (sym r.3) in
-    let digest : ◌≡◌ {A = CheckpointError} (Damaged p.kept (sha256 p.body)) (Damaged p.kept computed) = ap (λ (k : List ℕ). Damaged p.kept k) (sym r.4) in
+    let is : ◌≡◌ {A = CheckpointError} (Damaged p.kept computed) (Damaged kept computed) =
+        ap (λ (k : List ℕ). Damaged k computed) (sym r.3) in
+    let digest : ◌≡◌ {A = CheckpointError} (Damaged p.kept (sha256 p.body)) (Damaged p.kept computed) =
+        ap (λ (k : List ℕ). Damaged p.kept k) (sym r.4) in
     let other : p.kept ≢ sha256 p.body = λ same. r.5 (r.3 ∙ same ∙ sym r.4) in
-    early text (Damaged kept computed) r.0 (written_damaged text p r.2 other ∙ ap (λ (e : CheckpointError). Err e) (digest ∙ is))
+    early text (Damaged kept computed) r.0
+    (written_damaged text p r.2 other ∙ ap (λ (e : CheckpointError). Err e) (digest ∙ is))
 refusal_is_read text (BadVersion version) r =
     let p = r.1 in
-    early text (BadVersion version) r.0 (written_of_version text p r.2 r.3 (subst (λ (v : ℕ). ¬ (IsKnownVersion v)) r.4 r.5) ∙ ap (λ (v : ℕ). Err (BadVersion v)) (sym r.4))
+    early text (BadVersion version) r.0
+    (written_of_version text p r.2 r.3 (subst (λ (v : ℕ). ¬ (IsKnownVersion v)) r.4 r.5) ∙ ap (λ (v : ℕ). Err (BadVersion v)) (sym r.4))
 refusal_is_read text BadBody r =
     let p = r.1 in
     early text BadBody r.0 (written_sound text p r.2 r.3 r.4 ∙ bad_body text r.0 p r.2 r.5 r.4)
@@ -82,15 +87,20 @@ refusal_is_read text (ProblemRefused why) r = late text r.0 r.1 ∙ refused_prob
 refusal_is_read text (NextTooLarge next count) r =
     let c = r.0 in
     let p = r.1 in
-    late text c r.2.writes ∙ refused_next text c p r.2 (omega (arith, r.3, r.4, r.5)) ∙ ap (λ (n : ℕ). Err (NextTooLarge n (count_of p))) (sym r.3) ∙ ap (λ (n : ℕ). Err (NextTooLarge next n)) (sym r.4)
+    late text c r.2.writes ∙ refused_next text c p r.2 (omega (arith, r.3, r.4, r.5))
+    ∙ ap (λ (n : ℕ). Err (NextTooLarge n (count_of p))) (sym r.3) ∙ ap (λ (n : ℕ). Err (NextTooLarge next n)) (sym r.4)
 refusal_is_read text (LineCount found wanted) r =
     let c = r.0 in
     let p = r.1 in
-    late text c r.2.written.writes ∙ refused_lines text c p r.2 (λ same. r.5 (r.3 ∙ same ∙ sym r.4)) ∙ ap (λ (n : ℕ). Err (LineCount n (length p.integrals))) (sym r.3) ∙ ap (λ (n : ℕ). Err (LineCount found n)) (sym r.4)
+    late text c r.2.written.writes ∙ refused_lines text c p r.2 (λ same. r.5 (r.3 ∙ same ∙ sym r.4))
+    ∙ ap (λ (n : ℕ). Err (LineCount n (length p.integrals))) (sym r.3)
+    ∙ ap (λ (n : ℕ). Err (LineCount found n)) (sym r.4)
 refusal_is_read text (ResidueCount found wanted) r =
     let c = r.0 in
     let p = r.1 in
-    late text c r.2.written.written.writes ∙ refused_counts text c p found r.2 (subst (λ (n : ℕ). IsFirstCount c.rows n found) r.3 r.4) ∙ ap (λ (n : ℕ). Err (ResidueCount found n)) (sym r.3)
+    late text c r.2.written.written.writes
+    ∙ refused_counts text c p found r.2 (subst (λ (n : ℕ). IsFirstCount c.rows n found) r.3 r.4)
+    ∙ ap (λ (n : ℕ). Err (ResidueCount found n)) (sym r.3)
 refusal_is_read text (ResidueRefused place) r =
     let c = r.0 in
     let p = r.1 in
@@ -102,17 +112,20 @@ module _ (result : Result StateView CheckpointError) (text : List ℕ) (gives : 
   pub gives_state : IfOk result (λ s. IsTextOf s text)
   gives_state = go result gives
     where
-      go : (r : Result StateView CheckpointError) → Gives (λ s. s) r (checkpoint_reading text) → IfOk r (λ s. IsTextOf s text)
+      go : (r : Result StateView CheckpointError) → Gives (λ s. s) r (checkpoint_reading text)
+          → IfOk r (λ s. IsTextOf s text)
       go (Ok s) h = read_found text s h
       go (Err e) h = tt
 
   pub gives_refusal : IfErr result (λ e. e ≢ NoMemory → IsRefusal text e)
   gives_refusal = go result gives
     where
-      go : (r : Result StateView CheckpointError) → Gives (λ s. s) r (checkpoint_reading text) → IfErr r (λ e. e ≢ NoMemory → IsRefusal text e)
+      go : (r : Result StateView CheckpointError) → Gives (λ s. s) r (checkpoint_reading text)
+          → IfErr r (λ e. e ≢ NoMemory → IsRefusal text e)
       go (Ok s) h = tt
       go (Err e) h = λ known. read_refused text e (h known)
 
   -- the reading is all that it gives
-  pub gives_only : (read : Result StateView CheckpointError) → checkpoint_reading text ≡ read → Gives (λ s. s) result read
+  pub gives_only : (read : Result StateView CheckpointError) → checkpoint_reading text ≡ read
+      → Gives (λ s. s) result read
   gives_only read is = subst (λ (r : Result StateView CheckpointError). Gives (λ s. s) result r) is gives

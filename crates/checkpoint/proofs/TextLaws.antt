@@ -42,7 +42,9 @@ append_small (x ∷ xs) ys h k (suc i) = append_small xs ys (λ j. h (suc j)) k 
 digest_small : (h : List ℕ) (n : ℕ) → Small (digest_bytes h n)
 unfolding digest_bytes
 digest_small h zero i = omega arith
-digest_small h (suc n) i = append_small (digest_bytes h n) (to_be_bytes w32 (get_or h n 0)) (digest_small h n) (high_first_small 4 (get_or h n 0)) i
+digest_small h (suc n) i =
+    append_small (digest_bytes h n) (to_be_bytes w32 (get_or h n 0)) (digest_small h n)
+    (high_first_small 4 (get_or h n 0)) i
 
 sha256_small : (m : List ℕ) → Small (sha256 m)
 unfolding sha256
@@ -60,12 +62,15 @@ row_in (row ∷ rows) (suc i) = omega (arith, length-append row (concat rows), r
 
 row_long : (row : List ℕ) → length row ≤ length (residue_line row)
 row_long row =
-    let long = spelled_long starts_with_space residue_at residue_text IsNumber (λ r. omega (arith, length-append (codes " ") (decimal r))) row in
+    let long =
+        spelled_long starts_with_space residue_at residue_text IsNumber
+        (λ r. omega (arith, length-append (codes " ") (decimal r))) row in
     omega (arith, long, length-append (codes "residues" ++ flat_map residue_text row) (codes "\n"), length-append (codes "residues") (flat_map residue_text row))
 
 concat_long : (rows : List (List ℕ)) → length (concat rows) ≤ length (flat_map residue_line rows)
 concat_long [] = omega arith
-concat_long (row ∷ rows) = omega (arith, length-append row (concat rows), length-append (residue_line row) (flat_map residue_line rows), row_long row, concat_long rows)
+concat_long (row ∷ rows) =
+    omega (arith, length-append row (concat rows), length-append (residue_line row) (flat_map residue_line rows), row_long row, concat_long rows)
 
 rows_in_text : (text a s n f k : List ℕ) → text ≡ a ++ s ++ n ++ f ++ k → length f ≤ length text
 rows_in_text text a s n f k h =
@@ -80,7 +85,9 @@ pub record Sizes (c : Contents) : Type 0 where
 pub sizes : (text : List ℕ) (c : Contents) → Writes text c → Sizes c
 sizes text c w =
     let f = flat_map residue_line c.rows in
-    let most = rows_in_text text (number_line (codes "locus-checkpoint ") c.version) (source_text c.source) (number_line (codes "next ") c.next) f (seal (sha256 (body_of c))) w.whole in
+    let most =
+        rows_in_text text (number_line (codes "locus-checkpoint ") c.version) (source_text c.source)
+        (number_line (codes "next ") c.next) f (seal (sha256 (body_of c))) w.whole in
     record {
       rows = omega (arith, most, w.fits, rows_long c.rows);
       row = λ i. omega (arith, most, w.fits, concat_long c.rows, row_in c.rows i);
@@ -105,7 +112,8 @@ written_parts text c w = record {
 }
 
 pub written_again : (text : List ℕ) (c : Contents) → Writes text c → written_at text ≡ Ok c
-written_again text c w = written_sound text (parts_of c) (written_parts text c w) refl w.contents.version ∙ contents_again c w.contents
+written_again text c w =
+    written_sound text (parts_of c) (written_parts text c w) refl w.contents.version ∙ contents_again c w.contents
 
 -- the contents of sound parts, and their fault
 module _ (text : List ℕ) (fits : Fits text) (p : Parts) (has : HasParts text p) where
@@ -116,23 +124,30 @@ module _ (text : List ℕ) (fits : Fits text) (p : Parts) (has : HasParts text p
       record {
         fits = fits;
         contents = found.contents;
-        whole = has.whole ∙ ap (λ (k : List ℕ). p.body ++ seal k) sound ∙ ap (λ (b : List ℕ). b ++ seal (sha256 b)) body;
+        whole = has.whole ∙ ap (λ (k : List ℕ). p.body ++ seal k) sound
+            ∙ ap (λ (b : List ℕ). b ++ seal (sha256 b)) body;
       }
 
   sound_ok : (c : Contents) → sound_at p.kept p.body p.version p.rest ≡ Ok c → Writes text c
   unfolding sound_at
   sound_ok c h =
-      let a = keep_ok (bytes_eq p.kept (sha256 p.body)) (Damaged p.kept (sha256 p.body)) (keep (eqb p.version 1 || eqb p.version 2) (BadVersion p.version) >>= (λ _. contents_at p.version p.rest)) c h in
-      let b = keep_ok (eqb p.version 1 || eqb p.version 2) (BadVersion p.version) (contents_at p.version p.rest) c a.1 in
-      written_whole c ((bytes_eq-Decides p.kept (sha256 p.body)).0 a.0) (contents_take p.version p.rest c (known_test p.version b.0) b.1)
+      let a =
+          keep_ok (bytes_eq p.kept (sha256 p.body)) (Damaged p.kept (sha256 p.body))
+          (keep (eqb p.version 1 || eqb p.version 2) (BadVersion p.version) >>= (λ _. contents_at p.version p.rest)) c h in
+      let b =
+          keep_ok (eqb p.version 1 || eqb p.version 2) (BadVersion p.version) (contents_at p.version p.rest) c a.1 in
+      written_whole c ((bytes_eq-Decides p.kept (sha256 p.body)).0 a.0)
+      (contents_take p.version p.rest c (known_test p.version b.0) b.1)
 
   -- a body that is refused is that of no contents
-  no_contents : (e : CheckpointError) → contents_at p.version p.rest ≡ Err e → (c : Contents) → AreContents c → p.body ≢ body_of c
+  no_contents : (e : CheckpointError) → contents_at p.version p.rest ≡ Err e → (c : Contents) → AreContents c
+      → p.body ≢ body_of c
   no_contents e h c are same =
       let here : number_line_at (codes "locus-checkpoint ") p.body ≡ Some (c.version, rest_of c) = ap (number_line_at (codes "locus-checkpoint ")) (same ∙ body_is c)
       ∙ number_line_again (codes "locus-checkpoint ") c.version (rest_of c) (known_small c.version are.version) in
       let pair = some_pair_parts p.version c.version p.rest (rest_of c) (sym (parts_first text p has) ∙ here) in
-      let read : contents_at p.version p.rest ≡ Ok c = ap (λ (v : ℕ). contents_at v p.rest) pair.0 ∙ ap (contents_at c.version) pair.1 ∙ contents_again c are in
+      let read : contents_at p.version p.rest ≡ Ok c =
+          ap (λ (v : ℕ). contents_at v p.rest) pair.0 ∙ ap (contents_at c.version) pair.1 ∙ contents_again c are in
       let clash = sym h ∙ read in
       cc clash
 
@@ -149,26 +164,32 @@ module _ (text : List ℕ) (fits : Fits text) (p : Parts) (has : HasParts text p
             ]
       ]
 
-  pub bad_body : ((c : Contents) → AreContents c → p.body ≢ body_of c) → IsKnownVersion p.version → contents_at p.version p.rest ≡ Err BadBody
+  pub bad_body : ((c : Contents) → AreContents c → p.body ≢ body_of c) → IsKnownVersion p.version
+      → contents_at p.version p.rest ≡ Err BadBody
   bad_body none known = by_result (contents_at p.version p.rest) refl
     where
       by_result : (r : Result Contents CheckpointError) → contents_at p.version p.rest ≡ r → r ≡ Err BadBody
       by_result (Ok c) h =
           let found = contents_take p.version p.rest c known h in
-          absurd (none c found.contents (has.first_line ∙ ap (λ (v : ℕ). number_line (codes "locus-checkpoint ") v ++ p.rest) (sym found.version_is)
+          absurd
+          (none c found.contents (has.first_line ∙ ap (λ (v : ℕ). number_line (codes "locus-checkpoint ") v ++ p.rest) (sym found.version_is)
           ∙ ap (λ (r : List ℕ). number_line (codes "locus-checkpoint ") c.version ++ r) found.parts ∙ sym (body_is c)))
       by_result (Err e) h = ap (λ (d : CheckpointError). Err d) (contents_err p.version p.rest e h)
 
 -- ---- a whole text
 
 abbrev first_step : List ℕ × List ℕ → Result Contents CheckpointError
-first_step sealed = ok_or (number_line_at (codes "locus-checkpoint ") sealed.0) NotCheckpoint >>= (λ first. sound_at sealed.1 sealed.0 first.0 first.1)
+first_step sealed =
+    ok_or (number_line_at (codes "locus-checkpoint ") sealed.0) NotCheckpoint >>=
+    (λ first. sound_at sealed.1 sealed.0 first.0 first.1)
 
 pub written_ok : (text : List ℕ) (c : Contents) → Fits text → written_at text ≡ Ok c → Writes text c
 unfolding written_at
 written_ok text c fits h =
     let a = bind_ok (ok_or (unsealed_at text) NotCheckpoint) first_step c h in
-    let b = bind_ok (ok_or (number_line_at (codes "locus-checkpoint ") a.0.0) NotCheckpoint) (λ first. sound_at a.0.1 a.0.0 first.0 first.1) c a.2 in
+    let b =
+        bind_ok (ok_or (number_line_at (codes "locus-checkpoint ") a.0.0) NotCheckpoint)
+        (λ first. sound_at a.0.1 a.0.0 first.0 first.1) c a.2 in
     let p : Parts = record { kept = a.0.1; body = a.0.0; version = b.0.0; rest = b.0.1 } in
     sound_ok text fits p (parts_take text a.0.0 a.0.1 b.0.0 b.0.1 (ok_or_ok _ _ _ a.1) (ok_or_ok _ _ _ b.1)) c b.2
 
@@ -181,7 +202,8 @@ written_err text e fits h =
     elim (bind_err (ok_or (unsealed_at text) NotCheckpoint) first_step e h) [
       | inl first ↦
           let none = ok_or_err _ _ _ first in
-          subst (IsRefusal text) none.1 (fits, λ p has. some_none (p.body, p.kept) (unsealed_at text) (parts_sealed text p has) none.0)
+          subst (IsRefusal text) none.1
+          (fits, λ p has. some_none (p.body, p.kept) (unsealed_at text) (parts_sealed text p has) none.0)
       | inr a ↦
           elim (bind_err (ok_or (number_line_at (codes "locus-checkpoint ") a.0.0) NotCheckpoint) (λ first. sound_at a.0.1 a.0.0 first.0 first.1) e a.2) [
             | inl second ↦
@@ -195,6 +217,7 @@ written_err text e fits h =
                 )
             | inr b ↦
                 let p : Parts = record { kept = a.0.1; body = a.0.0; version = b.0.0; rest = b.0.1 } in
-                sound_err text fits p (parts_take text a.0.0 a.0.1 b.0.0 b.0.1 (ok_or_ok _ _ _ a.1) (ok_or_ok _ _ _ b.1)) e b.2
+                sound_err text fits p
+                (parts_take text a.0.0 a.0.1 b.0.0 b.0.1 (ok_or_ok _ _ _ a.1) (ok_or_ok _ _ _ b.1)) e b.2
           ]
     ]

@@ -10,19 +10,23 @@ use Rattle.checkpoint.specs.declared.error.CheckpointError.{CheckpointError}
 
 -- ---- steps
 
-pub and_then_some : {A B : Type 0} (o : Option A) (f : A → Option B) (y : B) → and_then o f ≡ Some y → (x : A) × (o ≡ Some x) × (f x ≡ Some y)
+pub and_then_some : {A B : Type 0} (o : Option A) (f : A → Option B) (y : B) → and_then o f ≡ Some y
+    → (x : A) × (o ≡ Some x) × (f x ≡ Some y)
 and_then_some None f y h = absurd cc
 and_then_some (Some x) f y h = (x, refl, h)
 
-pub option_map_some : {A B : Type 0} (o : Option A) (f : A → B) (y : B) → option_map f o ≡ Some y → (x : A) × (o ≡ Some x) × (f x ≡ y)
+pub option_map_some : {A B : Type 0} (o : Option A) (f : A → B) (y : B) → option_map f o ≡ Some y
+    → (x : A) × (o ≡ Some x) × (f x ≡ y)
 option_map_some None f y h = absurd cc
 option_map_some (Some x) f y h = (x, refl, cc)
 
-pub bind_ok : {A B : Type 0} (r : Result A CheckpointError) (f : A → Result B CheckpointError) (y : B) → (r >>= f) ≡ Ok y → (x : A) × (r ≡ Ok x) × (f x ≡ Ok y)
+pub bind_ok : {A B : Type 0} (r : Result A CheckpointError) (f : A → Result B CheckpointError) (y : B)
+    → (r >>= f) ≡ Ok y → (x : A) × (r ≡ Ok x) × (f x ≡ Ok y)
 bind_ok (Ok x) f y h = (x, refl, h)
 bind_ok (Err e) f y h = absurd cc
 
-pub bind_err : {A B : Type 0} (r : Result A CheckpointError) (f : A → Result B CheckpointError) (e : CheckpointError) → (r >>= f) ≡ Err e → (r ≡ Err e) ⊎ ((x : A) × (r ≡ Ok x) × (f x ≡ Err e))
+pub bind_err : {A B : Type 0} (r : Result A CheckpointError) (f : A → Result B CheckpointError) (e : CheckpointError)
+    → (r >>= f) ≡ Err e → (r ≡ Err e) ⊎ ((x : A) × (r ≡ Ok x) × (f x ≡ Err e))
 bind_err (Ok x) f e h = inr (x, refl, h)
 bind_err (Err d) f e h = inl cc
 
@@ -44,7 +48,8 @@ pub after_word_takes : (word text rest : List ℕ) → after_word word text ≡ 
 after_word_takes word text rest h =
     let k = cond_some (bytes_eq (take (length word) text) word) (drop (length word) text) rest h in
     let front : take (length word) text ≡ word = (bytes_eq-Decides (take (length word) text) word).0 k.0 in
-    sym (take-append-drop (length word) text) ∙ ap (λ (f : List ℕ). f ++ drop (length word) text) front ∙ ap (λ (r : List ℕ). word ++ r) k.1
+    sym (take-append-drop (length word) text) ∙ ap (λ (f : List ℕ). f ++ drop (length word) text) front
+    ∙ ap (λ (r : List ℕ). word ++ r) k.1
 
 pub after_word_again : (word rest : List ℕ) → after_word word (word ++ rest) ≡ Some rest
 after_word_again word rest =

@@ -30,7 +30,8 @@ length_rows_of : (m count : ℕ) (xs : List ℕ) → length (rows_of m count xs)
 length_rows_of m zero xs = refl
 length_rows_of m (suc count) xs = ap suc (length_rows_of m count (drop m xs))
 
-room_next : (m count : ℕ) (xs : List ℕ) → length xs ≡ suc count * m → (length (take m xs) ≡ m) × (length (drop m xs) ≡ count * m)
+room_next : (m count : ℕ) (xs : List ℕ) → length xs ≡ suc count * m
+    → (length (take m xs) ≡ m) × (length (drop m xs) ≡ count * m)
 room_next m count xs room =
     let t = length-take m xs in
     let d = length-drop m xs in
@@ -38,9 +39,12 @@ room_next m count xs room =
 
 concat_rows_of : (m count : ℕ) (xs : List ℕ) → length xs ≡ count * m → concat (rows_of m count xs) ≡ xs
 concat_rows_of m zero xs room = sym (nil_from_length xs (grind (arith, room)))
-concat_rows_of m (suc count) xs room = ap (λ (t : List ℕ). take m xs ++ t) (concat_rows_of m count (drop m xs) (room_next m count xs room).1) ∙ take-append-drop m xs
+concat_rows_of m (suc count) xs room =
+    ap (λ (t : List ℕ). take m xs ++ t) (concat_rows_of m count (drop m xs) (room_next m count xs room).1)
+    ∙ take-append-drop m xs
 
-each_row_of : (m count : ℕ) (xs : List ℕ) → length xs ≡ count * m → AllByRecursion (λ row. length row ≡ m) (rows_of m count xs)
+each_row_of : (m count : ℕ) (xs : List ℕ) → length xs ≡ count * m
+    → AllByRecursion (λ row. length row ≡ m) (rows_of m count xs)
 each_row_of m zero xs room = tt
 each_row_of m (suc count) xs room = let r = room_next m count xs room in (r.0, each_row_of m count (drop m xs) r.1)
 
@@ -59,7 +63,8 @@ small_take m xs le h j lt =
 small_drop : (m : ℕ) (xs : List ℕ) → AreSmall xs → AreSmall (drop m xs)
 small_drop m xs h j lt = rw get_or-drop (h (m + j) (omega (arith, length-drop m xs)))
 
-rows_are : (m count : ℕ) (xs : List ℕ) → 1 ≤ m → length xs ≡ count * m → AreSmall xs → AllByRecursion IsRow (rows_of m count xs)
+rows_are : (m count : ℕ) (xs : List ℕ) → 1 ≤ m → length xs ≡ count * m → AreSmall xs
+    → AllByRecursion IsRow (rows_of m count xs)
 rows_are m zero xs some room small = tt
 rows_are m (suc count) xs some room small =
     let r = room_next m count xs room in
@@ -76,7 +81,8 @@ source_short source p h =
       | inr short ↦ ltb-false _ _ short.0
     ]
   where
-    chosen_problem : (b : Bool) (x y z : Result ProblemView ProblemError) → cond b x y ≡ z → ((b ≡ true) × (x ≡ z)) ⊎ ((b ≡ false) × (y ≡ z))
+    chosen_problem : (b : Bool) (x y z : Result ProblemView ProblemError) → cond b x y ≡ z
+        → ((b ≡ true) × (x ≡ z)) ⊎ ((b ≡ false) × (y ≡ z))
     chosen_problem b x y z e = chosen b x y z e
 
 residues_small : (s : StateView) → IsState s → AreSmall s.residues
@@ -98,9 +104,12 @@ module _ (v : ℕ) (s : StateView) (is : IsState s) (known : IsKnownVersion v) (
   state_again =
       let joined = concat_rows_of m n s.residues is.residues.one_each in
       let fit : residues_fit s.problem.moduli 0 (concat (rows_of m n s.residues)) ≡ Ok tt = ap (residues_fit s.problem.moduli 0) joined
-      ∙ residues_fit_from s.problem.moduli 0 s.residues (λ j lt. subst (λ (k : ℕ). get_or s.residues j 0 < modulus_at s.problem.moduli k) (omega arith) (is.residues.below j lt)) in
-      at_state (contents_in v s) s.problem (ap problem_of is.problem) is.next (length_rows_of m n s.residues) (counts_fit_from m (rows_of m n s.residues) (each_row_of m n s.residues is.residues.one_each)) fit
-      ∙ ap (λ (xs : List ℕ). Ok (record { source = s.source; problem = s.problem; next = s.next; residues = xs })) joined
+      ∙ residues_fit_from s.problem.moduli 0 s.residues
+      (λ j lt. subst (λ (k : ℕ). get_or s.residues j 0 < modulus_at s.problem.moduli k) (omega arith) (is.residues.below j lt)) in
+      at_state (contents_in v s) s.problem (ap problem_of is.problem) is.next (length_rows_of m n s.residues)
+      (counts_fit_from m (rows_of m n s.residues) (each_row_of m n s.residues is.residues.one_each)) fit
+      ∙ ap
+      (λ (xs : List ℕ). Ok (record { source = s.source; problem = s.problem; next = s.next; residues = xs })) joined
 
   contents_are : AreContents (contents_in v s)
   contents_are = record {
@@ -119,7 +128,8 @@ line_short word k small =
     let d = length-decimal-le 20 k (omega arith) (omega arith) small in
     omega (arith, d, length-append (word ++ decimal k) (codes "\n"), length-append word (decimal k))
 
-residues_short : (row : List ℕ) → AllByRecursion (λ r. r < 2 ^ 64) row → length (flat_map residue_text row) ≤ length row * 21
+residues_short : (row : List ℕ) → AllByRecursion (λ r. r < 2 ^ 64) row
+    → length (flat_map residue_text row) ≤ length row * 21
 residues_short [] h = omega arith
 residues_short (r ∷ row) h =
     let d = length-decimal-le 20 r (omega arith) (omega arith) h.0 in
@@ -129,13 +139,16 @@ row_short : (m : ℕ) (row : List ℕ) → m ≤ 8 → length row ≡ m → IsRo
 row_short m row few count is =
     omega (arith, count, residues_short row is.numbers, length-append (codes "residues" ++ flat_map residue_text row) (codes "\n"), length-append (codes "residues") (flat_map residue_text row))
 
-rows_short : (m : ℕ) (rows : List (List ℕ)) → m ≤ 8 → AllByRecursion IsRow rows → AllByRecursion (λ row. length row ≡ m) rows → length (flat_map residue_line rows) ≤ length rows * 177
+rows_short : (m : ℕ) (rows : List (List ℕ)) → m ≤ 8 → AllByRecursion IsRow rows
+    → AllByRecursion (λ row. length row ≡ m) rows → length (flat_map residue_line rows) ≤ length rows * 177
 rows_short m [] few are each = omega arith
 rows_short m (row ∷ rows) few are each =
     omega (arith, length-append (residue_line row) (flat_map residue_line rows), row_short m row few each.0 are.0, rows_short m rows few are.1 each.1)
 
-sum_of_five : (a s n f k : List ℕ) → length (a ++ s ++ n ++ f ++ k) ≡ length a + length s + length n + length f + length k
-sum_of_five a s n f k = omega (arith, length-append (a ++ s ++ n ++ f) k, length-append (a ++ s ++ n) f, length-append (a ++ s) n, length-append a s)
+sum_of_five : (a s n f k : List ℕ)
+    → length (a ++ s ++ n ++ f ++ k) ≡ length a + length s + length n + length f + length k
+sum_of_five a s n f k =
+    omega (arith, length-append (a ++ s ++ n ++ f) k, length-append (a ++ s ++ n) f, length-append (a ++ s) n, length-append a s)
 
 source_line_short : (source : List ℕ) → length source ≤ 1048576 → length (source_text source) ≤ 1048606
 source_line_short source short =
@@ -155,7 +168,9 @@ module _ (v : ℕ) (s : StateView) (is : IsState s) (known : IsKnownVersion v) (
       let f = flat_map residue_line (rows_of m n s.residues) in
       let k = seal (sha256 (body_of c)) in
       let version : v < 2 ^ 64 = known_small known in
-      let rows = rows_short m (rows_of m n s.residues) is.rules.moduli.most are.rows (each_row_of m n s.residues is.residues.one_each) in
+      let rows =
+          rows_short m (rows_of m n s.residues) is.rules.moduli.most are.rows
+          (each_row_of m n s.residues is.residues.one_each) in
       omega (
         arith,
         sum_of_five a t x f k,

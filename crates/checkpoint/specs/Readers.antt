@@ -1,5 +1,5 @@
--- What the steps of reading give. These serve the proofs alone: what a text of a state is, and when a text is refused, is
--- said in Texts and Refusals, and the contract of `read` speaks of those.
+-- What the steps of reading give. These serve the proofs alone: what a text of a state is, and when a text is refused,
+-- is said in Texts and Refusals, and the contract of `read` speaks of those.
 use Rattle.std.specs.Prelude.{◌≡◌, ℕ, zero, suc, ◌+◌, ◌-◌, ◌*◌, ◌^◌, ◌%◌, min, List, [], ◌∷◌, ◌++◌, length, take, drop, slice_index, codes, Bool, true, false, not, ◌&&◌, ◌||◌, ◌==◌, nat_lt, nat_le, bytes_eq, Option, Some, None, option_map, ok_or, Result, Ok, Err, if◌then◌else◌}
 use Rattle.std.specs.List.{concat}
 use Rattle.std.specs.Result.{result_ok}
@@ -29,7 +29,8 @@ after_word word text = if bytes_eq (take (length word) text) word then Some (dro
 
 -- what stands before a word at the end of a text
 abbrev pub before_word : List ℕ → List ℕ → Option (List ℕ)
-before_word word text = if bytes_eq (drop (length text - length word) text) word then Some (take (length text - length word) text) else None
+before_word word text =
+    if bytes_eq (drop (length text - length word) text) word then Some (take (length text - length word) text) else None
 
 abbrev pub is_digit : ℕ → Bool
 is_digit b = nat_le 48 b && nat_le b 57
@@ -37,7 +38,8 @@ is_digit b = nat_le 48 b && nat_le b 57
 -- the number that the digits at the start of a text write after those of n, and what follows them
 abbrev pub number_from : ℕ → List ℕ → Option (ℕ × List ℕ)
 number_from n [] = Some (n, [])
-number_from n (b ∷ bs) = if is_digit b then (if nat_lt (n * 10 + (b - 48)) (2 ^ 64) then number_from (n * 10 + (b - 48)) bs else None) else Some (n, b ∷ bs)
+number_from n (b ∷ bs) =
+    if is_digit b then (if nat_lt (n * 10 + (b - 48)) (2 ^ 64) then number_from (n * 10 + (b - 48)) bs else None) else Some (n, b ∷ bs)
 
 -- a digit stands first, and no 0 before another digit
 abbrev pub starts_decimal : List ℕ → Bool
@@ -58,12 +60,15 @@ number_line_at word text = and_then (after_word word text) (λ rest. and_then (d
 
 -- the bytes that 64 lower case hexadecimal digits write
 unfoldable pub digest_of : List ℕ → Option (List ℕ)
-digest_of digits = and_then (result_ok (decode_sized digits 32)) (λ bytes. if bytes_eq (encode_lower bytes) digits then Some bytes else None)
+digest_of digits =
+    and_then (result_ok (decode_sized digits 32))
+    (λ bytes. if bytes_eq (encode_lower bytes) digits then Some bytes else None)
 
 -- all but the last line, and the digest that it keeps
 unfoldable pub unsealed_at : List ℕ → Option (List ℕ × List ℕ)
 unsealed_at text = and_then (after_word (codes "sha256 ") (drop (length text - 72) text)) (λ rest.
-    and_then (before_word (codes "\n") rest) (λ digits. option_map (λ kept. (take (length text - 72) text, kept)) (digest_of digits)))
+    and_then (before_word (codes "\n") rest)
+    (λ digits. option_map (λ kept. (take (length text - 72) text, kept)) (digest_of digits)))
 
 -- ---- rows of residues
 
@@ -76,9 +81,11 @@ goes_on [] = false
 goes_on (b ∷ bs) = true
 
 -- items one after the other, as long as the test holds, but not more than n
-unfoldable pub many : {X : Type 0} → (List ℕ → Bool) → (List ℕ → Result (X × List ℕ) CheckpointError) → ℕ → List ℕ → Result (List X × List ℕ) CheckpointError
+unfoldable pub many : {X : Type 0} → (List ℕ → Bool) → (List ℕ → Result (X × List ℕ) CheckpointError) → ℕ → List ℕ
+    → Result (List X × List ℕ) CheckpointError
 many more item zero text = if more text then Err BadBody else Ok ([], text)
-many more item (suc n) text = if more text then (item text >>= λ x. many more item n x.1 >>= λ xs. Ok (x.0 ∷ xs.0, xs.1)) else Ok ([], text)
+many more item (suc n) text =
+    if more text then (item text >>= λ x. many more item n x.1 >>= λ xs. Ok (x.0 ∷ xs.0, xs.1)) else Ok ([], text)
 
 -- a residue after one space
 unfoldable pub residue_at : List ℕ → Result (ℕ × List ℕ) CheckpointError
@@ -145,7 +152,7 @@ counts_fit wanted (row ∷ rows) = do
   _ ← keep (length row == wanted) (ResidueCount (shown_count (length row)) wanted)
   counts_fit wanted rows
 
--- each residue, from the one at a place on, is below its modulus
+-- each residue, from the one at an index on, is below its modulus
 abbrev pub residues_fit : List ℕ → ℕ → List ℕ → Result (Unit {0}) CheckpointError
 residues_fit moduli place [] = Ok tt
 residues_fit moduli place (r ∷ rs) = do

@@ -1,4 +1,4 @@
--- When a text is refused, and what is printed of it: each refusal comes where none before it does and its own condition
+-- When a text is refused, and what is printed of it: each refusal comes if none before it does and its own condition
 -- holds. Their order is 1 to 7, 10, 8, 9.
 use Rattle.std.specs.Prelude.{◌≡◌, ◌≢◌, ℕ, ◌<◌, ◌≤◌, ◌^◌, ◌⊎◌, List, [], ◌++◌, length, slice_index, get_or, codes, decimal, Option, Some, None, Ok, Err}
 use Rattle.std.specs.List.{concat, AllByRecursion}
@@ -91,7 +91,7 @@ pub record IsFirstCount (rows : List (List ℕ)) (wanted found : ℕ) : Type 0 w
   pub other : found ≢ wanted
   pub first : (j : ℕ) → j < place → length (get_or rows j []) ≡ wanted
 
--- the place of the first residue that is not below its modulus
+-- the index of the first residue that is not below its modulus
 pub record IsFirstRefused (moduli residues : List ℕ) (place : ℕ) : Type 0 where
   pub within : place < length residues
   pub refused : modulus_at moduli place ≤ slice_index residues place

@@ -24,14 +24,15 @@ pub record AreResidues (p : ProblemView) (residues : List ℕ) : Type 0 where
   pub one_each : length residues ≡ places_of p
   pub below : AreBelow p.moduli residues
 
--- the problem is the reading of the source, next is at most the number of trees, and the residues are below their moduli
+-- the problem is the reading of the source, next is at most the number of trees, and the residues are below their
+-- moduli
 pub record IsState (s : StateView) : Type 0 where
   pub problem : reading s.source ≡ Ok s.problem
   pub rules : KeepsRules s.problem
   pub next : s.next ≤ count_of s.problem
   pub residues : AreResidues s.problem s.residues
 
--- a state is true where its residues are those of the partial sums over the trees of the numbers below next
+-- a state is true if its residues are those of the partial sums over the trees of the numbers below next
 abbrev pub IsTrueState : StateView → Type 0
 IsTrueState s = ArePartialSums s.problem 0 s.next s.residues
 

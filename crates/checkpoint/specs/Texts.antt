@@ -59,6 +59,6 @@ contents_in version s = record {
 abbrev pub text_in : ℕ → StateView → List ℕ
 text_in version s = text_of (contents_in version s)
 
--- a text of the state: that of version 2, or that of version 1 where there is one integral
+-- a text of the state: that of version 2, or that of version 1 if there is one integral
 abbrev pub IsTextOf : StateView → List ℕ → Type 0
 IsTextOf s text = (text ≡ text_in 2 s) ⊎ ((length s.problem.integrals ≡ 1) × (text ≡ text_in 1 s))

@@ -13,8 +13,8 @@ pub enum CheckpointError {
     NoMemory,
     /// The text has more than 1,052,672 bytes.
     TooLong,
-    /// The last line is not `sha256 ` with 64 lower case hexadecimal digits, or the first is not `locus-checkpoint ` with a
-    /// decimal.
+    /// The last line is not `sha256 ` with 64 lower case hexadecimal digits, or the first is not `locus-checkpoint `
+    /// with a decimal.
     NotCheckpoint,
     /// The digest that the last line keeps is not the one that SHA-256 gives of what stands before that line.
     Damaged { kept: [u8; 32], computed: [u8; 32] },
@@ -30,7 +30,7 @@ pub enum CheckpointError {
     LineCount { found: u32, wanted: u32 },
     /// A line has not as many residues as there are moduli; the first such line.
     ResidueCount { found: u32, wanted: u32 },
-    /// A residue is not below its modulus; the first such place, counted from 0 through all lines.
+    /// A residue is not below its modulus; the index of the first such residue, counted from 0 through all lines.
     ResidueRefused { place: u32 },
 }
 

@@ -1,7 +1,7 @@
 //! Checkpoints: how far the sum of a problem has come, and its texts.
 //!
-//! A [`State`] keeps in its type that it is one: its problem is the reading of its source, and its residues are below their
-//! moduli. [`write`] gives the text of a state, and [`read`] the state of a text.
+//! A [`State`] keeps in its type that it is one: its problem is the reading of its source, and its residues are below
+//! their moduli. [`write`] gives the text of a state, and [`read`] the state of a text.
 #![tactic(auto)]
 
 mod body;

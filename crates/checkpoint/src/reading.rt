@@ -89,8 +89,8 @@ fn read_any_length(alloc: Global, text: &[u8]) -> Result<State, CheckpointError>
 /// Reads a checkpoint, of version 1 or 2.
 ///
 /// # Errors
-/// The first refusal whose condition holds, in their order: [`CheckpointError`] says what each refuses. Want of memory is
-/// [`CheckpointError::NoMemory`] and says nothing of the text.
+/// The first refusal whose condition holds, in their order: [`CheckpointError`] says what each refuses. Want of memory
+/// is [`CheckpointError::NoMemory`] and says nothing of the text.
 pub fn read(alloc: Global, text: &[u8]) -> Result<State, CheckpointError>
     // What is read is a state with this text, and what is refused is refused for its first cause.
     ensures is_state { IfOk result IsState }

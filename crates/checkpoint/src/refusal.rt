@@ -93,11 +93,11 @@ fn append_whole(alloc: Global, line: &mut Vec<u8>, error: &CheckpointError) -> R
     }
 }
 
-/// Appends the number of a refusal, its name and its details, joined by single spaces, as `7 NextTooLarge 9 8`. Digests are
-/// 64 lower case hexadecimal digits. Want of memory is no refusal and appends nothing.
+/// Appends the number of a refusal, its name and its details, joined by single spaces, as `7 NextTooLarge 9 8`. Digests
+/// are 64 lower case hexadecimal digits. Want of memory is no refusal and appends nothing.
 ///
 /// # Errors
-/// Want of memory, and then the line is as before.
+/// `NoMemory` if the allocator refuses memory. Then the line is as before.
 pub fn append_refusal(
     alloc: Global,
     line: &mut Vec<u8>,
@@ -120,6 +120,9 @@ fn whole(alloc: Global, error: &CheckpointError) -> Result<Vec<u8>, NoMemory>
 }
 
 /// The line `checkpoint refused` with the number of the refusal, its name and its details, without a line feed.
+///
+/// # Errors
+/// `NoMemory` if the allocator refuses memory.
 pub fn refusal_line(alloc: Global, error: &CheckpointError) -> Result<Vec<u8>, NoMemory>
     ensures { IfOk result (λ line. line.items ≡ codes "checkpoint refused " ++ refusal_of error.now) }
 {

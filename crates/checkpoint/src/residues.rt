@@ -65,7 +65,8 @@ pub(crate) fn check_residues(moduli: &Moduli, residues: &[u64]) -> Result<(), Ch
     Ok(())
 }
 
-/// The modulus at a place, where residues stand integral by integral.
+/// The modulus of the residue with an index. Residues are listed integral by integral, and within one integral modulus
+/// by modulus.
 #[tactic(auto, using(std::proofs::lemmas::Option::get_or_from_slice_get))]
 fn modulus_at(moduli: &Moduli, place: usize) -> u64
     requires { 1 ≤ length moduli.now }

@@ -13,12 +13,12 @@ use residue::{Bytes, Residues};
 use std::alloc::Global;
 use std::marker::Model;
 
-/// How far the sum of a problem has come: the source of the problem, the number of the next tree, and the residues of the
-/// sums so far.
+/// How far the sum of a problem has come: the source of the problem, the number of the next tree, and the residues of
+/// the sums so far.
 ///
-/// Its type keeps that the problem is the reading of the source, that the next number is at most the number of trees, and
-/// that there is one residue for each integral and modulus, below its modulus. A state does not say that its residues are
-/// those of the trees before the next one: `IsTrueState` does.
+/// Its type keeps that the problem is the reading of the source, that the next number is at most the number of trees,
+/// and that there is one residue for each integral and modulus, below its modulus. A state does not say that its
+/// residues are those of the trees before the next one: `IsTrueState` does.
 #[derive(Debug, Drop)]
 pub struct State {
     source: Bytes,
@@ -50,7 +50,8 @@ impl Model for State {
 
 impl State {
     /// The state with these parts: a source, the problem that it stands for, the number of the next tree, from 0 to the
-    /// number of trees, and residues, integral by integral and within one integral modulus by modulus. It takes no memory.
+    /// number of trees, and residues, integral by integral and within one integral modulus by modulus. It takes no
+    /// memory.
     pub fn new(source: Bytes, problem: Problem, next: u64, residues: Residues) -> State
         requires { IsState (record { source = source; problem = problems.view problem; next = next; residues = residues }) }
         ensures value { result
@@ -96,8 +97,8 @@ impl State {
         self.residues.as_slice()
     }
 
-    /// The state of the same source and problem with another next number, at most the number of trees, and other residues,
-    /// each below its modulus. It takes no memory.
+    /// The state of the same source and problem with another next number, at most the number of trees, and other
+    /// residues, each below its modulus. It takes no memory.
     pub fn with_progress(self, next: u64, residues: Residues) -> State
         requires next { next ≤ count_of self.problem }
         requires residues { AreResidues self.problem residues }

@@ -41,6 +41,9 @@ fn body(alloc: Global, state: &State) -> Result<Vec<u8>, NoMemory>
 }
 
 /// The text of a state: its one text in version 2.
+///
+/// # Errors
+/// `NoMemory` if the allocator refuses memory.
 pub fn write(alloc: Global, state: &State) -> Result<Vec<u8>, NoMemory>
     ensures { IfOk result (λ text. text.items ≡ text_in 2 state.now) }
 {

@@ -77,7 +77,7 @@ none_total : {A : Type 0} (f h : A → ℕ) (xs : List A) → ((x : A) → h x �
 none_total f h [] k e = refl
 none_total f h (x ∷ xs) k e = let a = k x (omega arith) in omega (arith, none_total f h xs k (omega arith))
 
--- where one element has all of h, it has all of f
+-- if one element has all of h, it has all of f
 pub all_at : {A : Type 0} (f h : A → ℕ) (xs : List A) (i : ℕ) (x : A) → ((y : A) → h y ≡ 0 → f y ≡ 0)
     → get_elem? xs i ≡ some x → total h xs ≡ h x → total f xs ≡ f x
 all_at f h [] i x k at e = absurd (some-ne-none x (sym at))
@@ -205,13 +205,13 @@ none_up_to n x [] less h = refl
 none_up_to n x (y ∷ ys) less h = let a = h 0 y (omega arith) in
     let b = bit_not_le y x (omega arith) in omega (arith, none_up_to n x ys less (λ k d lt. h (suc k) d (omega arith)))
 
--- what holds of each place of a list holds of each number that stands in it
+-- what holds at each index of a list holds of each number in it
 pub each_of_all : (n : ℕ) (xs : List ℕ) → All (λ x. n ≤ x) xs → (x : ℕ) → 0 < times x xs → n ≤ x
 each_of_all n [] h x there = absurd (omega arith)
 each_of_all n (y ∷ ys) h x there = dite (ℕ_discrete y x) (λ is. omega (arith, h 0 y (omega arith)))
     (λ isnt. let z = bit_ne y x isnt in each_of_all n ys (λ k d lt. h (suc k) d (omega arith)) x (omega arith))
 
--- an item for each place below n, each with its fact, makes a list
+-- an item for each index below n, each with its fact, makes a list
 pub choose : {A : Type 0} (P : ℕ → A → Type 0) (n : ℕ) → ((k : ℕ) → k < n → (x : A) × P k x) → (xs : List A)
     × (length xs ≡ n) × ((k : ℕ) (d : A) → k < n → P k (get_or xs k d))
 choose P zero h = ([], refl, λ k d lt. absurd (omega arith))

@@ -49,7 +49,7 @@ fits_word p words views h = mod-eq_of_lt (omega (
 module _ (p : Plan) (words : List ℕ) (views : List (View Record)) (id : ℕ) (v : View Record)
     (h : IsCounted p words views)
     (one_record : length v.records ≡ 1) (at : get_elem? views id ≡ some v) where
-  -- what a number of each record adds up to where the record of this worker becomes r
+  -- what a number of each record adds up to if the record of this worker becomes r
   moved : (r : Record) (g : Record → ℕ) → over g (set views id (with_only v r)) + g (only v) ≡ over g views + g r
   moved r g = over_only (fresh 0) g views id v r one_record at
 

@@ -1,5 +1,5 @@
--- What the rule of each representation says of its records and of the bad word, as sums over views:
--- it says the same, and how it stays where the record of one worker changes.
+-- What the rule of each representation says of its records and of the bad word, written as sums over views: the two
+-- forms say the same, and both stay true when the record of one worker changes.
 use Rattle.std.proofs.Common.{◌≡◌, ℕ, ◌+◌, ◌++◌, min, List, [], ◌∷◌, length, set, sym, ap, ◌∙◌, arith}
 use mathlib.Core.Option.{some}
 use lib.ListN.{get_elem?}

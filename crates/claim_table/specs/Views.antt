@@ -42,7 +42,7 @@ abbrev pub made_from : {R : Type 0} → (ℕ → R) → ℕ → ℕ → List R
 made_from make k zero = []
 made_from make k (suc n) = make k ∷ made_from make (k + 1) n
 
--- the first seat has the records of all workers, and they are dealt from the front
+-- the first seat has the records of all workers, and they are dealt from the first on
 abbrev pub dealt_left : {R : Type 0} → View R → View R
 dealt_left v = view v.blocks (rest_of v.records)
 

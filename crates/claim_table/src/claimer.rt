@@ -16,7 +16,7 @@ pub const NOTHING_BAD: u64 = u64::MAX;
 /// A block of a round, by its number.
 #[derive(Clone, Copy, Debug, PartialEq, Eq)]
 pub struct Block {
-    /// The place of the block in its round, from 0 on.
+    /// The index of the block in its round, from 0 on.
     pub number: u32,
 }
 
@@ -29,7 +29,8 @@ pub struct Plan {
     pub workers: u32,
 }
 
-/// What a worker did in a round: what a seat means to a contract. No value of it is made.
+/// What a worker did in a round: what a seat means to a contract. The code never makes a
+/// value of it.
 pub struct Record {
     /// The worker's number.
     pub worker: u32,
@@ -77,7 +78,7 @@ pub trait Claimer {
     ///
     /// # Errors
     ///
-    /// `NoMemory` where there is no memory for the board or the seats.
+    /// `NoMemory` if there is no memory for the board or the seats.
     fn start(alloc: Global, blocks: u32, workers: u32) -> Result<(Self::Board, Vec<Self>), NoMemory>
         requires blocks { (0 < blocks) × (blocks ≤ 1024) }
         requires workers { (0 < workers) × (workers ≤ 64) }
@@ -91,7 +92,7 @@ pub trait Claimer {
     fn worker(&self) -> u32
         ensures { result ≡ (record_of self.now).worker };
 
-    /// Takes a block that nobody took. `None` where there is none left for this seat, which is dry
+    /// Takes a block that nobody took. `None` if there is none left for this seat, which is dry
     /// then.
     fn take(&mut self, board: &Self::Board) -> Option<Block>
         requires seat { sits_at self.old board.now }

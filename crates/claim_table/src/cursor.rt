@@ -14,6 +14,7 @@ use std::alloc::Global;
 #[cfg(test)]
 mod tests;
 
+// The rule of the cursor's words.
 pub struct CursorRule;
 
 impl TableRule<(), View<Record>, Plan> for CursorRule {
@@ -130,7 +131,7 @@ impl Claimer for CursorSeat {
         self.number
     }
 
-    /// One `fetch_add`, and no step where the seat is dry already. `None` exactly where the seat
+    /// One `fetch_add`, and no step if the seat is dry already. `None` exactly if the seat
     /// was dry or the step found the cursor at the end or past it.
     fn take(&mut self, board: &Cursor) -> Option<Block>
         requires seat { IsSeatOf self.old board.now }

@@ -29,7 +29,7 @@ impl Owners {
     ///
     /// # Errors
     ///
-    /// `NoMemory` where there is no memory for the list.
+    /// `NoMemory` if there is no memory for the list.
     pub fn new(alloc: Global, blocks: u32) -> Result<Owners, NoMemory>
         requires { (0 < blocks) × (blocks ≤ 1024) }
         ensures { IfOk result (λ o. o ≡ replicate blocks 0) }

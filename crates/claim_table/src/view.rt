@@ -4,7 +4,7 @@ use atomic_table::{Join, Play, Split};
 use std::collections::LinkedList;
 
 /// What a seat of the table knows: the number of blocks of the round, and the records of the
-/// workers that it stands for. No value of it is made.
+/// workers that it stands for. The code never makes a value of it.
 pub struct View<R> {
     /// The number of blocks.
     pub blocks: u32,

@@ -23,20 +23,23 @@ turned z x y t =
     omega (arith, ints, one, two)
 
 pub sections_product-progression : (ws : List ℤ) (i j n : ℕ)
-    → sections_product ws i j n ≡ product_below (n + 1) (progression (pos n *ℤ weight ws j) (weight ws i -ℤ weight ws j))
+    → sections_product ws i j n
+    ≡ product_below (n + 1) (progression (pos n *ℤ weight ws j) (weight ws i -ℤ weight ws j))
 unfolding sections_product
 sections_product-progression ws i j n =
     product_below-same (n + 1) (section_term ws i j n) _ (λ t h. between n t (weight ws i) (weight ws j) (omega arith))
 
 pub inner_product-progression : (ws : List ℤ) (i j n : ℕ)
-    → inner_product ws i j n ≡ product_below (n - 1) (progression (pos n *ℤ weight ws j +ℤ (weight ws i -ℤ weight ws j)) (weight ws i -ℤ weight ws j))
+    → inner_product ws i j n
+    ≡ product_below (n - 1) (progression (pos n *ℤ weight ws j +ℤ (weight ws i -ℤ weight ws j)) (weight ws i -ℤ weight ws j))
 unfolding inner_product
 inner_product-progression ws i j n =
     product_below-same (n - 1) (inner_term ws i j n) _
     (λ t h. between n (t + 1) (weight ws i) (weight ws j) (omega arith) ∙ further (pos n *ℤ weight ws j) (weight ws i -ℤ weight ws j) t)
 
 pub negated_inner_product-progression : (ws : List ℤ) (i j n : ℕ)
-    → negated_inner_product ws i j n ≡ product_below (n - 1) (progression ((weight ws j -ℤ weight ws i) -ℤ pos n *ℤ weight ws j) (weight ws j -ℤ weight ws i))
+    → negated_inner_product ws i j n
+    ≡ product_below (n - 1) (progression ((weight ws j -ℤ weight ws i) -ℤ pos n *ℤ weight ws j) (weight ws j -ℤ weight ws i))
 unfolding negated_inner_product
 negated_inner_product-progression ws i j n =
     product_below-same (n - 1) (negated_inner_term ws i j n) _

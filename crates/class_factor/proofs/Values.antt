@@ -15,8 +15,10 @@ use Rattle.tree_parts.proofs.Edgewise.{along_edges-map}
 
 -- one item more
 pub product-more : {A : Type 0} (f : A → Fraction) (xs : List A) (i : ℕ) (d : A) → i < length xs
-    → product_of_fractions (map f (take (i + 1) xs)) ≡ times (product_of_fractions (map f (take i xs))) (f (get_or xs i d))
-product-more f xs i d h = ap product_of_fractions (map_more f xs i d h) ∙ product_of_fractions-push (map f (take i xs)) (f (get_or xs i d))
+    → product_of_fractions (map f (take (i + 1) xs))
+    ≡ times (product_of_fractions (map f (take i xs))) (f (get_or xs i d))
+product-more f xs i d h =
+    ap product_of_fractions (map_more f xs i d h) ∙ product_of_fractions-push (map f (take i xs)) (f (get_or xs i d))
 
 pub total-more : {A : Type 0} (f : A → ℤ) (xs : List A) (i : ℕ) (d : A) → i < length xs
     → total (map f (take (i + 1) xs)) ≡ total (map f (take i xs)) +ℤ f (get_or xs i d)
@@ -26,17 +28,21 @@ total-more f xs i d h = ap total (map_more f xs i d h) ∙ total-push (map f (ta
 abbrev pub of_edge : {A : Type 0} → (ℕ → ℕ → ℕ → A) → ColouredEdge → A
 of_edge f e = f e.first e.second e.degree
 
-pub every_edge : {A : Type 0} (f : ℕ → ℕ → ℕ → A) (g : DecoratedTree) (es : List ColouredEdge) (i : ℕ) → es ≡ at_edges coloured_edge g → length es ≤ i
+pub every_edge : {A : Type 0} (f : ℕ → ℕ → ℕ → A) (g : DecoratedTree) (es : List ColouredEdge) (i : ℕ)
+    → es ≡ at_edges coloured_edge g → length es ≤ i
     → map (of_edge f) (take i es) ≡ at_edges f g
-every_edge f g es i e h = ap (map (of_edge f)) (take_all i es h ∙ e) ∙ sym (along_edges-map f g.colours g.edges g.degrees)
+every_edge f g es i e h =
+    ap (map (of_edge f)) (take_all i es h ∙ e) ∙ sym (along_edges-map f g.colours g.edges g.degrees)
 
 -- one vertex more
 map-push : (f : ℕ → Fraction) (us : List ℕ) (u : ℕ) → map f (us ++ u ∷ []) ≡ map f us ++ f u ∷ []
 map-push f [] u = refl
 map-push f (v ∷ us) u = ap (λ xs. f v ∷ xs) (map-push f us u)
 
-pub product-vertex : (f : ℕ → Fraction) (v : ℕ) → product_of_fractions (map f (below (v + 1))) ≡ times (product_of_fractions (map f (below v))) (f v)
-product-vertex f v = rw add-one (ap product_of_fractions (map-push f (below v) v) ∙ product_of_fractions-push (map f (below v)) (f v))
+pub product-vertex : (f : ℕ → Fraction) (v : ℕ)
+    → product_of_fractions (map f (below (v + 1))) ≡ times (product_of_fractions (map f (below v))) (f v)
+product-vertex f v =
+    rw add-one (ap product_of_fractions (map-push f (below v) v) ∙ product_of_fractions-push (map f (below v)) (f v))
 
 -- the classes with parts at edges and vertices
 pub parts_value : (ws : List ℤ) (class : Class) (g : DecoratedTree)

@@ -10,10 +10,10 @@ ghost use Rattle.residue.specs.Degrees.{HasParameterWithinLimit};
 use residue::{Class, Modulus, NoUnit, Ratio, Setup};
 
 /// The residue of the fraction of a class at an edge of degree `a`, from 1 to 10, between vertices of two different
-/// colours `i` and `j`, each at most the rank. The parameter of the class, where it has one, is within its limit.
+/// colours `i` and `j`, each at most the rank. The parameter of the class, if it has one, is within its limit.
 ///
 /// # Errors
-/// `NoUnit` exactly where the bottom of the fraction and the modulus have a common divisor above 1.
+/// `NoUnit` exactly if the bottom of the fraction and the modulus have a common divisor above 1.
 pub fn edge_part(
     setup: &Setup,
     class: &Class,

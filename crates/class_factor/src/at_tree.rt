@@ -14,11 +14,11 @@ use residue::{Class, Modulus, NoUnit, Setup, Term};
 use tree_parts::TreeParts;
 
 /// The residue of the value of a class at a decorated tree whose colours are at most the rank. The parameter of the
-/// class, where it has one, is within its limit, and its mark, where it has one, is from 1 to the number of the tree's
+/// class, if it has one, is within its limit, and its mark, if it has one, is from 1 to the number of the tree's
 /// marks. A psi class has the value 1.
 ///
 /// # Errors
-/// `NoUnit` exactly where the bottom of the value and the modulus have a common divisor above 1.
+/// `NoUnit` exactly if the bottom of the value and the modulus have a common divisor above 1.
 pub fn whole_part(
     setup: &Setup,
     class: &Class,
@@ -38,7 +38,7 @@ pub fn whole_part(
 /// limits.
 ///
 /// # Errors
-/// `NoUnit` exactly where the bottom of some class of the term and the modulus have a common divisor above 1, whatever
+/// `NoUnit` exactly if the bottom of some class of the term and the modulus have a common divisor above 1, whatever
 /// the coefficient is.
 pub fn term_value(setup: &Setup, term: &Term, tree: &Tree, modulus: &Modulus) -> Result<u64, NoUnit>
     requires tree { IsTreeOfRank (length setup.now - 1) tree.now }

@@ -10,11 +10,11 @@ ghost use Rattle.residue.specs.Degrees.{HasParameterWithinLimit};
 
 use residue::{Class, Modulus, NoUnit, Ratio, Setup};
 
-/// The residue of the fraction of a class at a vertex of colour `c`, at most the rank, with `s` edges, from 1 to 10. The
-/// parameter of the class, where it has one, is within its limit.
+/// The residue of the fraction of a class at a vertex of colour `c`, at most the rank, with `s` edges, from 1 to 10.
+/// The parameter of the class, if it has one, is within its limit.
 ///
 /// # Errors
-/// `NoUnit` exactly where the bottom of the fraction and the modulus have a common divisor above 1.
+/// `NoUnit` exactly if the bottom of the fraction and the modulus have a common divisor above 1.
 pub fn vertex_part(
     setup: &Setup,
     class: &Class,

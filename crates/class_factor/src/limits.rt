@@ -5,7 +5,7 @@ ghost use Rattle.residue.specs.Classes.{IsClassFor, IsPowerFor};
 
 use residue::{Class, Power};
 
-/// Whether the parameter and the mark of a class, where it has one, are within their limits: `b` and `k` from 1 to 64,
+/// Whether the parameter and the mark of a class, if it has one, are within their limits: `b` and `k` from 1 to 64,
 /// `q` from 2 to 12, and a mark from 1 to `marks`.
 pub fn is_class_for(class: &Class, marks: u8) -> bool
     ensures { IsTrue result ↔ IsClassFor marks class.now }

@@ -1,4 +1,4 @@
-//! The command line of the program: its commands, and what words ask of it.
+//! The command line of the program: its commands, and what its arguments ask of it.
 #![tactic(auto)]
 
 mod arguments;

@@ -1,4 +1,4 @@
-//! Reading the words of the command line.
+//! Reading the arguments of the command line.
 ghost use Rattle.std.specs.Prelude.{map, string_bytes, IfOk};
 ghost use Rattle.command_line.specs.Asked.{IsReading};
 ghost use Rattle.command_line.specs.Limits.{IsWithin};
@@ -10,12 +10,14 @@ use crate::table::Commands;
 use command_words::WordsError;
 use std::alloc::Global;
 
-/// Reads the words of the command line: what they ask, by the table of these commands.
+/// Reads the arguments of the command line: what they ask, by the table of these commands. The first argument is the
+/// program's name.
 ///
 /// # Errors
 ///
-/// `Refused` exactly if a word after the first is empty, `-`, `--`, or an option with nothing after its `=`.
-/// `ByCommand` with the text to print if there is no such word and the words are no use of one of the commands.
+/// `Refused` exactly if an argument after the first is empty, `-`, `--`, or an option with nothing after its `=`.
+/// `ByCommand` with the text to print if there is no such argument and the arguments are no use of one of the
+/// commands.
 /// `NoMemory` if the system gave no memory.
 pub fn read<'a>(
     alloc: Global,

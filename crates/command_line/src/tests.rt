@@ -1,4 +1,4 @@
-//! Lists of words with what they ask, and the text of messages.
+//! Lists of arguments with what they ask, and the text of messages.
 mod lists;
 mod messages;
 mod random;
@@ -7,7 +7,7 @@ use crate::{Commands, WordsError, read};
 use std::alloc::{AllocError, Global};
 use std::test::Fail;
 
-/// The words of a line, which `|` stands between.
+/// The arguments of a line, with `|` between them.
 fn words_of(alloc: Global, line: &str) -> Result<Vec<String>, AllocError> {
     let mut words = Vec::new(alloc);
     for word in line.split('|') {
@@ -16,7 +16,7 @@ fn words_of(alloc: Global, line: &str) -> Result<Vec<String>, AllocError> {
     Ok(words)
 }
 
-/// What the words of a line ask, or why they are refused.
+/// What the arguments of a line ask, or why they are refused.
 fn told(alloc: Global, commands: Commands, line: &str) -> Result<String, AllocError> {
     let words = words_of(alloc, line)?;
     match read(alloc, commands, words.as_slice()) {

@@ -1,4 +1,4 @@
-//! Reading the words of a command line by a table of commands, with `clap`.
+//! Reading the arguments of a command line by a table of commands, with `clap`.
 #![tactic(auto)]
 
 mod command;

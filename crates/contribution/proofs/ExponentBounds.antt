@@ -27,7 +27,7 @@ pub exponent_within : (ps : List Power) (j : ℕ) → sum (map (psi_power j) ps)
 exponent_within ps j =
     rw (sum-map (psi_power j) ps) (sum_by-le-sum_by (psi_power j) (λ (p : Power). p.power) ps (λ p. one_power j p.power p.class))
 
--- where the powers together are at most 151, so is each exponent
+-- if the powers together are at most 151, so is each exponent
 pub bounded_is_for : (m : ℕ) (term : Term) → IsBoundedTerm m term → IsTermFor m term
 bounded_is_for m term h = record {
   classes = h.classes;
@@ -35,7 +35,8 @@ bounded_is_for m term h = record {
 }
 
 pub bounded : (b : Bool) (m : ℕ) (term : Term) (ps : List Power) (whole : ℕ) → ps ≡ term.classes → length ps ≤ 16
-    → whole ≡ sum_by (λ (p : Power). p.power) ps → whole ≤ 151 → (IsTrue b ↔ All (IsPowerFor m) ps) → IsTrue b ↔ IsBoundedTerm m term
+    → whole ≡ sum_by (λ (p : Power). p.power) ps → whole ≤ 151 → (IsTrue b ↔ All (IsPowerFor m) ps)
+    → IsTrue b ↔ IsBoundedTerm m term
 bounded b m term ps whole e few f most h = (
   λ t. record {
     few = subst (λ qs. length qs ≤ 16) e few;
@@ -45,17 +46,21 @@ bounded b m term ps whole e few f most h = (
   λ t. h.1 (subst (All (IsPowerFor m)) (sym e) t.classes),
 )
 
-pub too_many : (m : ℕ) (term : Term) (ps : List Power) → ps ≡ term.classes → 16 < length ps → IsTrue false ↔ IsBoundedTerm m term
+pub too_many : (m : ℕ) (term : Term) (ps : List Power) → ps ≡ term.classes → 16 < length ps
+    → IsTrue false ↔ IsBoundedTerm m term
 too_many m term ps e many = (λ t. cc, λ t. absurd (let few = subst (λ qs. length qs ≤ 16) (sym e) t.few in omega arith))
 
-pub too_high : (m : ℕ) (term : Term) (ps : List Power) (whole : ℕ) → ps ≡ term.classes → whole ≡ sum_by (λ (p : Power). p.power) ps → 151 < whole
+pub too_high : (m : ℕ) (term : Term) (ps : List Power) (whole : ℕ) → ps ≡ term.classes
+    → whole ≡ sum_by (λ (p : Power). p.power) ps → 151 < whole
     → IsTrue false ↔ IsBoundedTerm m term
-too_high m term ps whole e f high = (λ t. cc, λ t. absurd (let low = subst (λ qs. sum_by (λ (p : Power). p.power) qs ≤ 151) (sym e) t.powers in omega arith))
+too_high m term ps whole e f high =
+    (λ t. cc, λ t. absurd (let low = subst (λ qs. sum_by (λ (p : Power). p.power) qs ≤ 151) (sym e) t.powers in omega arith))
 
 pub enough : (b : Bool) (m : ℕ) (term : Term) → (IsTrue b ↔ IsBoundedTerm m term) → OnTrue b (IsTermFor m term)
 enough true m term h = bounded_is_for m term (h.0 refl)
 enough false m term h = tt
 
-pub enough_each : (b : Bool) (m : ℕ) (terms : List Term) → (IsTrue b ↔ All (IsBoundedTerm m) terms) → OnTrue b (All (IsTermFor m) terms)
+pub enough_each : (b : Bool) (m : ℕ) (terms : List Term) → (IsTrue b ↔ All (IsBoundedTerm m) terms)
+    → OnTrue b (All (IsTermFor m) terms)
 enough_each true m terms h = All-weaker (IsBoundedTerm m) (IsTermFor m) (bounded_is_for m) terms (h.0 refl)
 enough_each false m terms h = tt

@@ -8,10 +8,12 @@ use Rattle.residue.specs.declared.class.Term.{Term}
 use Rattle.localisation.specs.Contribution.{term_factor}
 use Rattle.contribution.specs.Terms.{sum_of_terms}
 
-sum_of_fractions-push : (fs : List Fraction) (f : Fraction) → sum_of_fractions (fs ++ f ∷ []) ≡ plus (sum_of_fractions fs) f
+sum_of_fractions-push : (fs : List Fraction) (f : Fraction)
+    → sum_of_fractions (fs ++ f ∷ []) ≡ plus (sum_of_fractions fs) f
 sum_of_fractions-push fs f = sum_of_fractions-append fs (f ∷ []) ∙ ap (plus (sum_of_fractions fs)) (plus-zero f)
 
-pub terms-more : (ws : List ℤ) (g : DecoratedTree) (ts : List Term) (i : ℕ) (t : Term) → i < length ts → t ≡ get_or ts i t
+pub terms-more : (ws : List ℤ) (g : DecoratedTree) (ts : List Term) (i : ℕ) (t : Term) → i < length ts
+    → t ≡ get_or ts i t
     → sum_of_terms ws g (take (i + 1) ts) ≡ plus (sum_of_terms ws g (take i ts)) (term_factor ws g t)
 terms-more ws g ts i t h e =
     ap sum_of_fractions (map_more (term_factor ws g) ts i t h)

@@ -18,7 +18,7 @@ use tree_parts::TreeParts;
 /// limits, and the exponent of each mark in each term is at most 151.
 ///
 /// # Errors
-/// `NoUnit` exactly where the bottom of the contribution and the modulus have a common divisor above 1.
+/// `NoUnit` exactly if the bottom of the contribution and the modulus have a common divisor above 1.
 pub fn tree_contribution(
     setup: &Setup,
     terms: &Terms,

@@ -22,7 +22,7 @@ use vertex_factor::vertex_psi_ratio;
 /// their limits, and the exponent of each mark in each term is at most 151.
 ///
 /// # Errors
-/// `NoUnit` exactly where the bottom of the contribution and the modulus have a common divisor above 1.
+/// `NoUnit` exactly if the bottom of the contribution and the modulus have a common divisor above 1.
 pub fn contribution(
     setup: &Setup,
     terms: &Terms,

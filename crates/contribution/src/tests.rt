@@ -129,7 +129,7 @@ fn one_term_without_psi_classes(rt: HostRuntime) -> Result<(), Fail> {
     let r1 = power(Class::R1 { k: 1 }, 2);
     let quintic = power(Class::Hypersurface { b: 5 }, 1);
     for (weights, coefficient, class, drawn, modulus, residue) in [
-        // -1/4 and 1/48 by hand, and 9/48 where the vertex in the middle has the colour 1.
+        // -1/4 and 1/48 by hand, and 9/48 if the vertex in the middle has the colour 1.
         (two.as_slice(), 1, r1, LINE, 101, Some(25)),
         (two.as_slice(), 1, r1, LINE, 1001, Some(250)),
         (two.as_slice(), 1, r1, PATH, 101, Some(40)),
@@ -137,7 +137,7 @@ fn one_term_without_psi_classes(rt: HostRuntime) -> Result<(), Fail> {
         (two.as_slice(), 1, r1, OTHER_PATH, 101, Some(57)),
         (five.as_slice(), 7, quintic, STAR, 9, None),
         (five.as_slice(), 7, quintic, STAR, GREATEST, None),
-        // The needed bottom counts even where the coefficient is 0.
+        // The bottom has to be a unit even if the coefficient is 0.
         ([1, 4].as_slice(), 0, r1, PATH, 9, None),
     ] {
         let alloc = rt.alloc();

@@ -66,13 +66,15 @@ counts_push s n (suc k) =
     ap (λ l. trees_with s n ∷ l) (counts_push s (n + 1) k ∙ ap (λ z. counts_from s (n + 1) k ++ trees_with s z ∷ []) e)
 
 pub total_push : (s : TreeShape) (n k : ℕ) → trees_from s n (suc k) ≡ trees_from s n k + trees_with s (n + k)
-total_push s n zero = let e : n ≡ n + 0 = omega arith in plus (trees_with s n) (trees_with s (n + 0)) (ap (λ z. trees_with s z) e)
+total_push s n zero =
+    let e : n ≡ n + 0 = omega arith in plus (trees_with s n) (trees_with s (n + 0)) (ap (λ z. trees_with s z) e)
   where
     plus : (a b : ℕ) → a ≡ b → a + 0 ≡ 0 + b
     plus a b e = omega arith
 total_push s n (suc k) =
     let e : n + 1 + k ≡ n + suc k = omega arith in
-    plus (trees_with s n) _ (trees_from s (n + 1) k) (trees_with s (n + suc k)) (total_push s (n + 1) k ∙ ap (λ z. trees_from s (n + 1) k + trees_with s z) e)
+    plus (trees_with s n) _ (trees_from s (n + 1) k) (trees_with s (n + suc k))
+    (total_push s (n + 1) k ∙ ap (λ z. trees_from s (n + 1) k + trees_with s z) e)
   where
     plus : (a b c e : ℕ) → b ≡ c + e → a + b ≡ a + c + e
     plus a b c e h = omega arith
@@ -82,16 +84,20 @@ length-counts s n zero = refl
 length-counts s n (suc k) = ap suc (length-counts s (n + 1) k)
 
 total_more : (s : TreeShape) (n k more : ℕ) → trees_from s n k ≤ trees_from s n (k + more)
-total_more s n k zero = let e : k ≡ k + 0 = omega arith in subst (λ z. trees_from s n k ≤ trees_from s n z) e (omega arith)
+total_more s n k zero =
+    let e : k ≡ k + 0 = omega arith in subst (λ z. trees_from s n k ≤ trees_from s n z) e (omega arith)
 total_more s n k (suc more) =
     let e : suc (k + more) ≡ k + suc more = omega arith in
-    subst (λ z. trees_from s n k ≤ trees_from s n z) e (plus _ (trees_from s n (k + more)) (trees_with s (n + (k + more))) _ (total_push s n (k + more)) (total_more s n k more))
+    subst (λ z. trees_from s n k ≤ trees_from s n z) e
+    (plus _ (trees_from s n (k + more)) (trees_with s (n + (k + more))) _ (total_push s n (k + more)) (total_more s n k more))
   where
     plus : (a b c e : ℕ) → e ≡ b + c → a ≤ b → a ≤ e
     plus a b c e h k = omega arith
 
 pub total_within : (s : TreeShape) (n k most : ℕ) → k ≤ most → trees_from s n k ≤ trees_from s n most
-total_within s n k most h = let e : k + (most - k) ≡ most = omega arith in subst (λ z. trees_from s n k ≤ trees_from s n z) e (total_more s n k (most - k))
+total_within s n k most h =
+    let e : k + (most - k) ≡ most = omega arith in
+    subst (λ z. trees_from s n k ≤ trees_from s n z) e (total_more s n k (most - k))
 
 -- ---- the counts of a shape, as far as the trees with fewer than n vertices
 pub record AreCounted (s : TreeShape) (n : ℕ) (sizes : List ℕ) (count : ℕ) : Type 0 where
@@ -102,26 +108,31 @@ pub record AreCounted (s : TreeShape) (n : ℕ) (sizes : List ℕ) (count : ℕ)
 pub counted_none : (s : TreeShape) → AreCounted s 2 [] 0
 counted_none s = record { counts = refl; total = refl; limited = omega arith }
 
-pub counted_push : (s : TreeShape) (n : ℕ) (counts : List ℕ) (count size : ℕ) → 2 ≤ n → size ≡ trees_with s n → count + size ≤ 1099511627776
+pub counted_push : (s : TreeShape) (n : ℕ) (counts : List ℕ) (count size : ℕ) → 2 ≤ n → size ≡ trees_with s n
+    → count + size ≤ 1099511627776
     → AreCounted s n counts count → AreCounted s (n + 1) (counts ++ size ∷ []) (count + size)
 counted_push s n counts count size least is limited c =
     let next : suc (n - 2) ≡ n + 1 - 2 = omega arith in
     let here : 2 + (n - 2) ≡ n = omega arith in
     let with : trees_with s (2 + (n - 2)) ≡ size = ap (trees_with s) here ∙ sym is in
     record {
-      counts = ap (λ l. l ++ size ∷ []) c.counts ∙ ap (λ z. counts_from s 2 (n - 2) ++ z ∷ []) (sym with) ∙ sym (counts_push s 2 (n - 2)) ∙ ap (counts_from s 2) next;
-      total = ap (λ z. z + size) c.total ∙ ap (λ z. trees_from s 2 (n - 2) + z) (sym with) ∙ sym (total_push s 2 (n - 2)) ∙ ap (trees_from s 2) next;
+      counts = ap (λ l. l ++ size ∷ []) c.counts ∙ ap (λ z. counts_from s 2 (n - 2) ++ z ∷ []) (sym with)
+          ∙ sym (counts_push s 2 (n - 2)) ∙ ap (counts_from s 2) next;
+      total = ap (λ z. z + size) c.total ∙ ap (λ z. trees_from s 2 (n - 2) + z) (sym with)
+          ∙ sym (total_push s 2 (n - 2)) ∙ ap (trees_from s 2) next;
       limited = limited;
     }
 
 -- the trees with n vertices are more than the limit alone, or with those before them
-pub too_many : (s : TreeShape) (n : ℕ) (counts : List ℕ) (count : ℕ) → 2 ≤ n → n < s.degree + 2 → 1099511627776 < count + trees_with s n
+pub too_many : (s : TreeShape) (n : ℕ) (counts : List ℕ) (count : ℕ) → 2 ≤ n → n < s.degree + 2
+    → 1099511627776 < count + trees_with s n
     → AreCounted s n counts count → 1099511627776 < tree_count s
 unfolding tree_count
 too_many s n counts count least most h c =
     let here : 2 + (n - 2) ≡ n = omega arith in
     let push = total_push s 2 (n - 2) ∙ ap (λ z. trees_from s 2 (n - 2) + trees_with s z) here in
-    plus _ _ (trees_from s 2 (n - 2)) (trees_with s n) count push c.total h (total_within s 2 (suc (n - 2)) s.degree (omega arith))
+    plus _ _ (trees_from s 2 (n - 2)) (trees_with s n) count push c.total h
+    (total_within s 2 (suc (n - 2)) s.degree (omega arith))
   where
     plus : (a b t w k : ℕ) → a ≡ t + w → k ≡ t → 1099511627776 < k + w → a ≤ b → 1099511627776 < b
     plus a b t w k e f h l = omega arith

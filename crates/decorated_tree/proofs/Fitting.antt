@@ -45,7 +45,7 @@ tree_of_shape s t h =
       differ = d.differ;
     }
 
--- what the first tests tell
+-- what is known after the first tests
 pub record FitFacts (s : TreeShape) (t : Tree) : Type 0 where
   pub least : 2 ≤ t.n
   pub most : t.n ≤ s.degree + 1
@@ -76,7 +76,8 @@ fit_facts s t h =
       marks_within = a.1;
     }
 
-pub shape_of_tree : (s : TreeShape) (t : Tree) → s.degree ≤ 10 → s.marks ≤ 12 → Arrays t → TreeOf s t → is_tree_of s t ≡ true
+pub shape_of_tree : (s : TreeShape) (t : Tree) → s.degree ≤ 10 → s.marks ≤ 12 → Arrays t → TreeOf s t
+    → is_tree_of s t ≡ true
 shape_of_tree s t small few l h =
     let f = fit_facts s t h.fits in
     let least = f.least in
@@ -147,11 +148,14 @@ pub record NumberOf (s : TreeShape) (t : Tree) (k : ℕ) : Type 0 where
   pub below : k < tree_count s
   pub tree : tree_of s k ≡ tree_view t
 
-pub digits_within : (s : TreeShape) (t : Tree) → s.degree < 11 → is_tree_of s t ≡ true → AreDigits (bases s t.n) (digits_by s (tree_view t))
+pub digits_within : (s : TreeShape) (t : Tree) → s.degree < 11 → is_tree_of s t ≡ true
+    → AreDigits (bases s t.n) (digits_by s (tree_view t))
 digits_within s t small h = digits_by_digits s (tree_view t) small (both _ _ h).1
 
-pub number_is : (s : TreeShape) (t : Tree) (before number : ℕ) (radix digits : List ℕ) → s.degree < 11 → is_tree_of s t ≡ true → before ≡ trees_from s 2 (t.n - 2)
-    → radix ≡ bases s t.n → digits ≡ digits_by s (tree_view t) → number ≡ joined radix digits → NumberOf s t (before + number)
+pub number_is : (s : TreeShape) (t : Tree) (before number : ℕ) (radix digits : List ℕ) → s.degree < 11
+    → is_tree_of s t ≡ true → before ≡ trees_from s 2 (t.n - 2)
+    → radix ≡ bases s t.n → digits ≡ digits_by s (tree_view t) → number ≡ joined radix digits
+    → NumberOf s t (before + number)
 unfolding number_of
 number_is s t before number radix digits small h b r d n =
     let good = (both _ _ h).1 in
@@ -169,9 +173,11 @@ length-digits_of (s ∷ walk) cs ds =
     length-digits_of walk cs (set ds s.0 x) ∙ length-set ds s.0 x
 
 pub all_digits : (s : TreeShape) (t : Tree) (word one two three four used places rest own marks degrees : List ℕ) (walk edges : List (ℕ × ℕ)) (rank d : ℕ)
-    → s.degree < 11 → is_tree_of s t ≡ true → word ≡ encoded t.n t.edges → edges ≡ t.edges → walk ≡ walk_in t.n edges (0 ∷ []) → used ≡ take t.n t.colours
+    → s.degree < 11 → is_tree_of s t ≡ true → word ≡ encoded t.n t.edges → edges ≡ t.edges
+    → walk ≡ walk_in t.n edges (0 ∷ []) → used ≡ take t.n t.colours
     → places ≡ digits_of walk used (take (length used) t.colours) → own ≡ take (length used) (places ++ rest)
-    → one ≡ [] ++ word → two ≡ one ++ own → d ≡ s.degree → degrees ≡ take (t.n - 1) t.degrees → rank ≡ rank_of degrees d → three ≡ two ++ rank ∷ [] → marks ≡ take t.m t.marks → four ≡ three ++ marks
+    → one ≡ [] ++ word → two ≡ one ++ own → d ≡ s.degree → degrees ≡ take (t.n - 1) t.degrees → rank ≡ rank_of degrees d
+    → three ≡ two ++ rank ∷ [] → marks ≡ take t.m t.marks → four ≡ three ++ marks
     → four ≡ digits_by s (tree_view t)
 all_digits s t word one two three four used places rest own marks degrees walk edges rank d small h is_word is_edges is_walk is_used is_places is_own is_one is_two is_d is_degrees is_rank is_three is_marks is_four =
     let k = digits_of_shape s t small h in
@@ -179,10 +185,13 @@ all_digits s t word one two three four used places rest own marks degrees walk e
     let count : length used ≡ t.n = ap length is_used ∙ k.colours_long in
     let along : walk ≡ walk_in t.n t.edges (0 ∷ []) = is_walk ∙ ap (λ e. walk_in t.n e (0 ∷ [])) is_edges in
     let digits : places ≡ digits_of (walk_in t.n t.edges (0 ∷ [])) colours colours =
-    is_places ∙ ap (λ w. digits_of w used (take (length used) t.colours)) along ∙ ap (λ u. digits_of (walk_in t.n t.edges (0 ∷ [])) u (take (length used) t.colours)) is_used
+    is_places ∙ ap (λ w. digits_of w used (take (length used) t.colours)) along
+    ∙ ap (λ u. digits_of (walk_in t.n t.edges (0 ∷ [])) u (take (length used) t.colours)) is_used
     ∙ ap (λ z. digits_of (walk_in t.n t.edges (0 ∷ [])) colours (take z t.colours)) count in
-    let long : length places ≡ length used = ap length digits ∙ length-digits_of (walk_in t.n t.edges (0 ∷ [])) colours colours ∙ ap length (sym is_used) in
+    let long : length places ≡ length used =
+    ap length digits ∙ length-digits_of (walk_in t.n t.edges (0 ∷ [])) colours colours ∙ ap length (sym is_used) in
     let kept : own ≡ places = is_own ∙ ap (λ z. take z (places ++ rest)) (sym long) ∙ take-append_seam places rest in
-    let ranked : rank ≡ rank_of (take (t.n - 1) t.degrees) s.degree = is_rank ∙ ap (λ z. rank_of z d) is_degrees ∙ ap (rank_of (take (t.n - 1) t.degrees)) is_d in
+    let ranked : rank ≡ rank_of (take (t.n - 1) t.degrees) s.degree =
+    is_rank ∙ ap (λ z. rank_of z d) is_degrees ∙ ap (rank_of (take (t.n - 1) t.degrees)) is_d in
     is_four ∙ ap₂ (λ (x y : List ℕ). x ++ y)
     (is_three ∙ ap₂ (λ (x : List ℕ) (y : ℕ). x ++ y ∷ []) (is_two ∙ ap₂ (λ (x y : List ℕ). x ++ y) (is_one ∙ is_word) (kept ∙ digits)) ranked) is_marks

@@ -8,10 +8,12 @@ grows_on a b c p q = record { more = p.more ++ q.more; is = q.is ∙ ap (λ l. l
 pub grows_by : (a b x : List ℕ) → b ≡ a ++ x → Grows a b
 grows_by a b x e = record { more = x; is = e }
 
-pub six_more : (o a b c d e f u v w x y z : List ℕ) → a ≡ o ++ u → b ≡ a ++ v → c ≡ b ++ w → d ≡ c ++ x → e ≡ d ++ y → f ≡ e ++ z → f ≡ o ++ (u ++ v ++ w ++ x ++ y ++ z)
+pub six_more : (o a b c d e f u v w x y z : List ℕ) → a ≡ o ++ u → b ≡ a ++ v → c ≡ b ++ w → d ≡ c ++ x → e ≡ d ++ y
+    → f ≡ e ++ z → f ≡ o ++ (u ++ v ++ w ++ x ++ y ++ z)
 six_more o a b c d e f u v w x y z p q r s t i = rw (i, t, s, r, q, p) (simp append_assoc)
 
-pub five_grow : (o a b c d e u v w x y : List ℕ) → a ≡ o ++ u → b ≡ a ++ v → c ≡ b ++ w → d ≡ c ++ x → e ≡ d ++ y → Grows o e
+pub five_grow : (o a b c d e u v w x y : List ℕ) → a ≡ o ++ u → b ≡ a ++ v → c ≡ b ++ w → d ≡ c ++ x → e ≡ d ++ y
+    → Grows o e
 five_grow o a b c d e u v w x y p q r s t = record { more = u ++ v ++ w ++ x ++ y; is = rw (t, s, r, q, p) (simp append_assoc) }
 
 pub same_more : (a o u v : List ℕ) → a ≡ o ++ u → u ≡ v → a ≡ o ++ v

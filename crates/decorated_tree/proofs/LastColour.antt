@@ -18,15 +18,17 @@ use Rattle.trees.proofs.WalkedEdges.{AlongEdges, tree_walk}
 use Rattle.trees.proofs.ColourDigits.{AreColours, colours_back}
 use Rattle.mixed_radix.proofs.Places.{length-digits, carry_start, carry_end}
 use Rattle.decorated_tree.specs.Following.{GoOn, ColoursGoOn, colour_bases, joins_colour}
-use Rattle.decorated_tree.proofs.Places.{length-coloured}
+use Rattle.decorated_tree.proofs.Unranking.{length-coloured}
 use Rattle.decorated_tree.proofs.FirstColour.{other_place, only_zero, zero_there}
 
 -- ---- the edges of the last vertex
 -- such an edge has it second
-last_second : (n v : ℕ) (es : List (ℕ × ℕ)) (u : ℕ) → n ≡ suc v → list_all (λ e. nat_lt e.0 e.1 && nat_lt e.1 n) es ≡ true → IsIn (edge_between u v) es → edge_between u v ≡ (u, v)
+last_second : (n v : ℕ) (es : List (ℕ × ℕ)) (u : ℕ) → n ≡ suc v
+    → list_all (λ e. nat_lt e.0 e.1 && nat_lt e.1 n) es ≡ true → IsIn (edge_between u v) es → edge_between u v ≡ (u, v)
 last_second n v es u e h i = second (each_of (λ e. nat_lt e.0 e.1 && nat_lt e.1 n) es h i)
   where
-    second : (nat_lt (edge_between u v).0 (edge_between u v).1 && nat_lt (edge_between u v).1 n) ≡ true → edge_between u v ≡ (u, v)
+    second : (nat_lt (edge_between u v).0 (edge_between u v).1 && nat_lt (edge_between u v).1 n) ≡ true
+        → edge_between u v ≡ (u, v)
     second h = grind (arith, nat_tests)
 
 none_of : {A : Type 0} (p : A → Bool) (xs : List A) {x : A} → list_any p xs ≡ false → IsIn x xs → p x ≡ false
@@ -44,7 +46,8 @@ some_of : {A : Type 0} (p : A → Bool) (xs : List A) → list_any p xs ≡ true
 some_of p [] h = cc
 some_of {A = A} p (x ∷ xs) h = cases (p x) refl h (some_of p xs)
   where
-    cases : (b : Bool) → p x ≡ b → (b || list_any p xs) ≡ true → (list_any p xs ≡ true → (y : A) × IsIn y xs × (p y ≡ true)) → (y : A) × IsIn y (x ∷ xs) × (p y ≡ true)
+    cases : (b : Bool) → p x ≡ b → (b || list_any p xs) ≡ true
+        → (list_any p xs ≡ true → (y : A) × IsIn y xs × (p y ≡ true)) → (y : A) × IsIn y (x ∷ xs) × (p y ≡ true)
     cases true e h f = (x, here, e)
     cases false e h f = let r = f h in (r.0, there r.1, r.2)
 
@@ -56,7 +59,7 @@ only_one (z ∷ []) e (there i) j = elim i [ ]
 only_one (z ∷ w ∷ xs) e i j = absurd (omega arith)
 
 -- ---- steps beside the last vertex
--- what a step asks where the digit of v goes up by one and its colour becomes c
+-- what has to hold of a step if the digit of v goes up by one and its colour becomes c
 record IsRaised (v c : ℕ) (ds cs : List ℕ) (s : ℕ × ℕ) : Type 0 where
   own : s.0 ≡ v → c ≡ lifted (get_or ds v 0 + 1) (get_or cs s.1 0)
   behind : s.1 ≡ v → get_or cs s.0 0 ≡ lifted (get_or ds s.0 0) c
@@ -68,10 +71,12 @@ AreRaised v c ds cs (s ∷ walk) = IsRaised v c ds cs s × AreRaised v c ds cs w
 at_set : (xs : List ℕ) (v u x : ℕ) → v < length xs → v ≡ u → get_or (set xs v x) u 0 ≡ x
 at_set xs v u x h e = subst (λ z. get_or (set xs v x) z 0 ≡ x) e (get_or-set_same xs v x 0 h)
 
-follows_raised : (walk : List (ℕ × ℕ)) (before : List ℕ) (v c : ℕ) (ds cs : List ℕ) → v < length ds → v < length cs → IsWalk walk before → AreRaised v c ds cs walk
+follows_raised : (walk : List (ℕ × ℕ)) (before : List ℕ) (v c : ℕ) (ds cs : List ℕ) → v < length ds → v < length cs
+    → IsWalk walk before → AreRaised v c ds cs walk
     → Follows walk ds cs → Follows walk (set ds v (get_or ds v 0 + 1)) (set cs v c)
 follows_raised [] before v c ds cs k l w r f = tt
-follows_raised (s ∷ walk) before v c ds cs k l w r f = (step (cases_eq v s.0) (cases_eq v s.1), follows_raised walk (s.0 ∷ before) v c ds cs k l w.2 r.1 f.1)
+follows_raised (s ∷ walk) before v c ds cs k l w r f =
+    (step (cases_eq v s.0) (cases_eq v s.1), follows_raised walk (s.0 ∷ before) v c ds cs k l w.2 r.1 f.1)
   where
     step : (v ≡ s.0) ⊎ (v ≢ s.0) → (v ≡ s.1) ⊎ (v ≢ s.1)
         → get_or (set cs v c) s.0 0 ≡ lifted (get_or (set ds v (get_or ds v 0 + 1)) s.0 0) (get_or (set cs v c) s.1 0)
@@ -87,13 +92,16 @@ follows_raised (s ∷ walk) before v c ds cs k l w r f = (step (cases_eq v s.0) 
     step (inr ne) (inr other) =
         get_or-set_other cs v s.0 c 0 (λ k. ne (sym k)) ∙ f.0
         ∙ ap (λ z. lifted z (get_or cs s.1 0)) (sym (get_or-set_other ds v s.0 (get_or ds v 0 + 1) 0 (λ k. ne (sym k))))
-        ∙ ap (lifted (get_or (set ds v (get_or ds v 0 + 1)) s.0 0)) (sym (get_or-set_other cs v s.1 c 0 (λ k. other (sym k))))
+        ∙ ap (lifted (get_or (set ds v (get_or ds v 0 + 1)) s.0 0))
+        (sym (get_or-set_other cs v s.1 c 0 (λ k. other (sym k))))
 
 -- no neighbour has the next colour
-free_raised : (es walk : List (ℕ × ℕ)) (v : ℕ) (ds cs : List ℕ) → ((u : ℕ) → IsIn (edge_between u v) es → get_or cs u 0 ≢ get_or cs v 0 + 1) → AlongEdges es walk
+free_raised : (es walk : List (ℕ × ℕ)) (v : ℕ) (ds cs : List ℕ)
+    → ((u : ℕ) → IsIn (edge_between u v) es → get_or cs u 0 ≢ get_or cs v 0 + 1) → AlongEdges es walk
     → Follows walk ds cs → AreRaised v (get_or cs v 0 + 1) ds cs walk
 free_raised es [] v ds cs free a f = tt
-free_raised es (s ∷ walk) v ds cs free a f = (record { own = own; behind = behind }, free_raised es walk v ds cs free a.1 f.1)
+free_raised es (s ∷ walk) v ds cs free a f =
+    (record { own = own; behind = behind }, free_raised es walk v ds cs free a.1 f.1)
   where
     up : (x p c : ℕ) → c ≡ lifted x p → p ≢ c + 1 → c + 1 ≡ lifted (x + 1) p
     up x p c e ne = grind (arith, nat_tests)
@@ -103,17 +111,21 @@ free_raised es (s ∷ walk) v ds cs free a f = (record { own = own; behind = beh
 
     own : s.0 ≡ v → get_or cs v 0 + 1 ≡ lifted (get_or ds v 0 + 1) (get_or cs s.1 0)
     own e =
-        up (get_or ds v 0) (get_or cs s.1 0) (get_or cs v 0) (subst (λ z. get_or cs z 0 ≡ lifted (get_or ds z 0) (get_or cs s.1 0)) e f.0)
+        up (get_or ds v 0) (get_or cs s.1 0) (get_or cs v 0)
+        (subst (λ z. get_or cs z 0 ≡ lifted (get_or ds z 0) (get_or cs s.1 0)) e f.0)
         (free s.1 (subst (λ z. IsIn z es) (ap (λ z. edge_between z s.1) e ∙ between_comm v s.1) a.0))
 
     behind : s.1 ≡ v → get_or cs s.0 0 ≡ lifted (get_or ds s.0 0) (get_or cs v 0 + 1)
     behind e =
-        stays (get_or ds s.0 0) (get_or cs s.0 0) (get_or cs v 0) (subst (λ z. get_or cs s.0 0 ≡ lifted (get_or ds s.0 0) (get_or cs z 0)) e f.0)
+        stays (get_or ds s.0 0) (get_or cs s.0 0) (get_or cs v 0)
+        (subst (λ z. get_or cs s.0 0 ≡ lifted (get_or ds s.0 0) (get_or cs z 0)) e f.0)
         (free s.0 (subst (λ z. IsIn (edge_between s.0 z) es) e a.0))
 
 -- the only neighbour has the next colour
-past_raised : (es walk : List (ℕ × ℕ)) (before : List ℕ) (v p : ℕ) (ds cs : List ℕ) → ((u : ℕ) → IsIn (edge_between u v) es → u ≡ p) → get_or cs p 0 ≡ get_or cs v 0 + 1
-    → AlongEdges es walk → IsWalk walk before → (is_there v before ≡ true → is_there p before ≡ true) → Follows walk ds cs → AreRaised v (get_or cs v 0 + 2) ds cs walk
+past_raised : (es walk : List (ℕ × ℕ)) (before : List ℕ) (v p : ℕ) (ds cs : List ℕ)
+    → ((u : ℕ) → IsIn (edge_between u v) es → u ≡ p) → get_or cs p 0 ≡ get_or cs v 0 + 1
+    → AlongEdges es walk → IsWalk walk before → (is_there v before ≡ true → is_there p before ≡ true)
+    → Follows walk ds cs → AreRaised v (get_or cs v 0 + 2) ds cs walk
 past_raised es [] before v p ds cs one next a w known f = tt
 past_raised es (s ∷ walk) before v p ds cs one next a w known f =
     (record { own = own; behind = behind }, past_raised es walk (s.0 ∷ before) v p ds cs one next a.1 w.2 (later (cases_eq s.0 v)) f.1)
@@ -126,12 +138,14 @@ past_raised es (s ∷ walk) before v p ds cs one next a w known f =
 
     own : s.0 ≡ v → get_or cs v 0 + 2 ≡ lifted (get_or ds v 0 + 1) (get_or cs s.1 0)
     own e =
-        up (get_or ds v 0) (get_or cs s.1 0) (get_or cs v 0) (subst (λ z. get_or cs z 0 ≡ lifted (get_or ds z 0) (get_or cs s.1 0)) e f.0)
+        up (get_or ds v 0) (get_or cs s.1 0) (get_or cs v 0)
+        (subst (λ z. get_or cs z 0 ≡ lifted (get_or ds z 0) (get_or cs s.1 0)) e f.0)
         (ap (λ z. get_or cs z 0) (parent e) ∙ next)
 
     behind : s.1 ≡ v → get_or cs s.0 0 ≡ lifted (get_or ds s.0 0) (get_or cs v 0 + 2)
     behind e =
-        absurd (apart p s.0 before (known (subst (λ z. is_there z before ≡ true) e w.1)) w.0 (sym (one s.0 (subst (λ z. IsIn (edge_between s.0 z) es) e a.0))))
+        absurd
+        (apart p s.0 before (known (subst (λ z. is_there z before ≡ true) e w.1)) w.0 (sym (one s.0 (subst (λ z. IsIn (edge_between s.0 z) es) e a.0))))
 
     later : (s.0 ≡ v) ⊎ (s.0 ≢ v) → is_there v (s.0 ∷ before) ≡ true → is_there p (s.0 ∷ before) ≡ true
     later (inl e) m = still_there p s.0 before (subst (λ z. is_there z before ≡ true) (parent e) w.1)
@@ -143,10 +157,12 @@ each_within r [] h v = omega arith
 each_within r (c ∷ cs) h zero = leb-true c r (both _ _ h).0
 each_within r (c ∷ cs) h (suc v) = each_within r cs (both _ _ h).1 v
 
-room : (walk : List (ℕ × ℕ)) (v c r : ℕ) (ds cs : List ℕ) → c ≤ r → ((u : ℕ) → get_or cs u 0 ≤ r) → AreRaised v c ds cs walk → is_walked v walk ≡ true → get_or ds v 0 + 1 < r
+room : (walk : List (ℕ × ℕ)) (v c r : ℕ) (ds cs : List ℕ) → c ≤ r → ((u : ℕ) → get_or cs u 0 ≤ r)
+    → AreRaised v c ds cs walk → is_walked v walk ≡ true → get_or ds v 0 + 1 < r
 room [] v c r ds cs most all h m = cc
 room (s ∷ walk) v c r ds cs most all h m =
-    ⊎_elim (λ e. below (get_or ds v 0 + 1) (get_or cs s.1 0) (h.0.own e) (all s.1)) (λ ne. room walk v c r ds cs most all h.1 (other_place s.0 v (is_walked v walk) ne m)) (cases_eq s.0 v)
+    ⊎_elim (λ e. below (get_or ds v 0 + 1) (get_or cs s.1 0) (h.0.own e) (all s.1))
+    (λ ne. room walk v c r ds cs most all h.1 (other_place s.0 v (is_walked v walk) ne m)) (cases_eq s.0 v)
   where
     below : (x p : ℕ) → c ≡ lifted x p → p ≤ r → x < r
     below x p e k = grind (arith, nat_tests)
@@ -155,7 +171,8 @@ room (s ∷ walk) v c r ds cs most all h m =
 not_equal : (x y : ℕ) → not (x == y) ≡ true → x ≢ y
 not_equal x y h = grind (arith, nat_tests)
 
-colours_of : (n r : ℕ) (es : List (ℕ × ℕ)) (cs : List ℕ) → length cs ≡ n → list_all (λ c. nat_le c r) cs ≡ true → list_all (ends_differ cs) es ≡ true → AreColours n r es cs
+colours_of : (n r : ℕ) (es : List (ℕ × ℕ)) (cs : List ℕ) → length cs ≡ n → list_all (λ c. nat_le c r) cs ≡ true
+    → list_all (ends_differ cs) es ≡ true → AreColours n r es cs
 colours_of n r es cs long within differ = record {
   long = long;
   within = λ v k. each_within r cs within v;
@@ -179,20 +196,23 @@ digits_long n r ds least h =
     let places = length-replicate (n - 1) r in
     length-digits (colour_bases n r) ds h ∙ (let long : suc (length (replicate (n - 1) r)) ≡ n = omega arith in long)
 
--- the digits with the last one raised, where its base has room
-last_goes_on : (n r v : ℕ) (ds : List ℕ) → n ≡ suc v → 1 ≤ v → AreDigits (colour_bases n r) ds → get_or ds v 0 + 1 < r → GoOn (colour_bases n r) ds (set ds v (get_or ds v 0 + 1)) true
+-- the digits with the last one raised, if it is still below its base
+last_goes_on : (n r v : ℕ) (ds : List ℕ) → n ≡ suc v → 1 ≤ v → AreDigits (colour_bases n r) ds → get_or ds v 0 + 1 < r
+    → GoOn (colour_bases n r) ds (set ds v (get_or ds v 0 + 1)) true
 last_goes_on n r v ds e some h less =
     let count = digits_long n r ds (omega arith) h in
     let long : length (colour_bases n r) ≡ n = sym (length-digits (colour_bases n r) ds h) ∙ count in
     let base : get_or (colour_bases n r) v 0 ≡ r = at v some (omega arith) in
-    carry_end (colour_bases n r) ds ds n v (omega arith) (omega arith) (omega arith) (carry_start (colour_bases n r) ds n (sym long) h)
+    carry_end (colour_bases n r) ds ds n v (omega arith) (omega arith) (omega arith)
+    (carry_start (colour_bases n r) ds n (sym long) h)
   where
     at : (v : ℕ) → 1 ≤ v → v < suc (n - 1) → get_or ((r + 1) ∷ replicate (n - 1) r) v 0 ≡ r
     at zero some k = absurd (omega arith)
     at (suc v) some k = get_or-replicate (n - 1) v r 0 (omega arith)
 
 raised : (n r v : ℕ) (es : List (ℕ × ℕ)) (cs : List ℕ) (c : ℕ) → n ≡ suc v → AreTreeColours n r es cs → c ≤ r
-    → AreRaised v c (digits_of (walk_in n es (0 ∷ [])) cs cs) cs (walk_in n es (0 ∷ [])) → Follows (walk_in n es (0 ∷ [])) (digits_of (walk_in n es (0 ∷ [])) cs cs) cs
+    → AreRaised v c (digits_of (walk_in n es (0 ∷ [])) cs cs) cs (walk_in n es (0 ∷ []))
+    → Follows (walk_in n es (0 ∷ [])) (digits_of (walk_in n es (0 ∷ [])) cs cs) cs
     → ColoursGoOn n r es cs (set cs v c) true
 raised n r v es cs c e h most raises follows =
     let walk = walk_in n es (0 ∷ []) in
@@ -202,26 +222,33 @@ raised n r v es cs c e h most raises follows =
     let long = h.long in
     let some : 1 ≤ v = omega arith in
     let t = tree_walk n es h.tree in
-    let less = room walk v c r ds cs most (each_within r cs h.within) raises (t.reaches v (omega arith) (λ z. absurd (omega arith))) in
+    let less =
+    room walk v c r ds cs most (each_within r cs h.within) raises
+    (t.reaches v (omega arith) (λ z. absurd (omega arith))) in
     let next = last_goes_on n r v ds e some h.digits less in
     let count = digits_long n r ds least h.digits in
     let new_count : length xs ≡ n = length-set ds v (get_or ds v 0 + 1) ∙ count in
     let new_follows = follows_raised walk (0 ∷ []) v c ds cs (omega arith) (omega arith) t.walks raises follows in
-    let coloured_follow = coloured_follows walk (0 ∷ []) xs xs t.walks (subst (λ m. Within walk m) (sym new_count) t.within) in
+    let coloured_follow =
+    coloured_follows walk (0 ∷ []) xs xs t.walks (subst (λ m. Within walk m) (sym new_count) t.within) in
     let first : get_or (set cs v c) 0 0 ≡ get_or (coloured walk xs xs) 0 0 =
     get_or-set_other cs v 0 c 0 (λ z. absurd (omega arith)) ∙ sym (digits_keep walk (0 ∷ []) cs cs 0 t.walks zero_there)
-    ∙ sym (get_or-set_other ds v 0 (get_or ds v 0 + 1) 0 (λ z. absurd (omega arith))) ∙ sym (coloured_keeps walk (0 ∷ []) xs xs 0 t.walks zero_there) in
+    ∙ sym (get_or-set_other ds v 0 (get_or ds v 0 + 1) 0 (λ z. absurd (omega arith)))
+    ∙ sym (coloured_keeps walk (0 ∷ []) xs xs 0 t.walks zero_there) in
     let same = follows_once walk (0 ∷ []) xs (set cs v c) (coloured walk xs xs) t.walks
     (λ u m. subst (λ z. get_or (set cs v c) z 0 ≡ get_or (coloured walk xs xs) z 0) (only_zero u m) first) new_follows coloured_follow in
     record {
       digits = xs;
       next = next;
-      colours = ext_get_or 0 (set cs v c) (coloured walk xs xs) (length-set cs v c ∙ long ∙ sym new_count ∙ sym (length-coloured walk xs xs))
+      colours =
+          ext_get_or 0 (set cs v c) (coloured walk xs xs)
+          (length-set cs v c ∙ long ∙ sym new_count ∙ sym (length-coloured walk xs xs))
           (λ i k. ⊎_elim (λ z. subst (λ j. get_or (set cs v c) j 0 ≡ get_or (coloured walk xs xs) j 0) z first)
           (λ ne. same i (t.reaches i (let l = length-set cs v c in omega arith) ne)) (cases_eq 0 i));
     }
 
-follows_own : (n r : ℕ) (es : List (ℕ × ℕ)) (cs : List ℕ) → AreTreeColours n r es cs → Follows (walk_in n es (0 ∷ [])) (digits_of (walk_in n es (0 ∷ [])) cs cs) cs
+follows_own : (n r : ℕ) (es : List (ℕ × ℕ)) (cs : List ℕ) → AreTreeColours n r es cs
+    → Follows (walk_in n es (0 ∷ [])) (digits_of (walk_in n es (0 ∷ [])) cs cs) cs
 follows_own n r es cs h =
     let walk = walk_in n es (0 ∷ []) in
     let ds = digits_of walk cs cs in
@@ -229,11 +256,13 @@ follows_own n r es cs h =
     let t = tree_walk n es h.tree in
     let own = colours_of n r es cs h.long h.within h.differ in
     let count = digits_long n r ds h.least h.digits in
-    subst (Follows walk ds) (colours_back n r es walk (omega arith) t cs own) (coloured_follows walk (0 ∷ []) ds ds t.walks (subst (λ m. Within walk m) (sym count) t.within))
+    subst (Follows walk ds) (colours_back n r es walk (omega arith) t cs own)
+    (coloured_follows walk (0 ∷ []) ds ds t.walks (subst (λ m. Within walk m) (sym count) t.within))
 
 -- to the next colour, which no neighbour has
 pub raised_free : (n r : ℕ) (es : List (ℕ × ℕ)) (cs : List ℕ) → AreTreeColours n r es cs → get_or cs (n - 1) 0 + 1 ≤ r
-    → list_any (joins_colour (n - 1) (get_or cs (n - 1) 0 + 1) cs) es ≡ false → ColoursGoOn n r es cs (set cs (n - 1) (get_or cs (n - 1) 0 + 1)) true
+    → list_any (joins_colour (n - 1) (get_or cs (n - 1) 0 + 1) cs) es ≡ false
+    → ColoursGoOn n r es cs (set cs (n - 1) (get_or cs (n - 1) 0 + 1)) true
 raised_free n r es cs h most none =
     let v = n - 1 in
     let least = h.least in
@@ -243,7 +272,8 @@ raised_free n r es cs h most none =
     let c = get_or cs v 0 + 1 in
     let free : (u : ℕ) → IsIn (edge_between u v) es → get_or cs u 0 ≢ c =
     λ u i. other v (get_or cs u 0) c (none_of (joins_colour v c cs) es none (subst (λ e. IsIn e es) (last_second n v es u last (upward n es h.tree) i) i)) in
-    raised n r v es cs c last h most (free_raised es (walk_in n es (0 ∷ [])) v (digits_of (walk_in n es (0 ∷ [])) cs cs) cs free t.along follows) follows
+    raised n r v es cs c last h most
+    (free_raised es (walk_in n es (0 ∷ [])) v (digits_of (walk_in n es (0 ∷ [])) cs cs) cs free t.along follows) follows
   where
     other : (v x c : ℕ) → ((v == v) && (x == c)) ≡ false → x ≢ c
     other v x c h = grind (arith, nat_tests)

@@ -1,14 +1,13 @@
-pub mod Lists
 pub mod Counts
 pub mod Refusals
 pub mod Growing
 pub mod Walking
-pub mod Ranking
+pub mod DegreeRanking
 pub mod BinomialRanks
-pub mod Places
+pub mod Unranking
 pub mod Fitting
 pub mod Members
-pub mod Counting
+pub mod NextDigits
 pub mod NextDegrees
 pub mod FirstColour
 pub mod LastColour

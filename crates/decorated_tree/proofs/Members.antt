@@ -9,7 +9,8 @@ join : (a b : Bool) → a ≡ true → b ≡ true → (a && b) ≡ true
 join a b h k = grind arith
 
 pub listed_tree : (s : TreeShape) (t : Tree) → IsListed s t → is_tree_of s t ≡ true
-listed_tree s t l = join _ _ (join _ _ (eq-eqb t.m s.marks l.marks) l.padding) (is_in_all_trees s (tree_view t) l.listed)
+listed_tree s t l =
+    join _ _ (join _ _ (eq-eqb t.m s.marks l.marks) l.padding) (is_in_all_trees s (tree_view t) l.listed)
 
 pub tree_listed : (s : TreeShape) (t : Tree) → s.degree < 11 → is_tree_of s t ≡ true → IsListed s t
 tree_listed s t small h =

@@ -6,8 +6,9 @@ use Rattle.mixed_radix.specs.declared.RadixError.{RadixError}
 use Rattle.mixed_radix.specs.declared.RadixError.TheVariants.{TooMany, ZeroBase, TooLarge}
 use Rattle.mixed_radix.proofs.Places.{product-first_zero}
 
--- the bases of a tree are refused exactly where their product is too large
-pub refused_by_size : (bs : List ℕ) (r : Result (List ℕ) RadixError) (o : Option (List ℕ)) → o ≡ result_ok r → length bs ≤ 33 → 0 < product_of bs
+-- the bases of a tree are refused exactly if their product is too large
+pub refused_by_size : (bs : List ℕ) (r : Result (List ℕ) RadixError) (o : Option (List ℕ)) → o ≡ result_ok r
+    → length bs ≤ 33 → 0 < product_of bs
     → IfOk r (λ _. (length bs ≤ 40) × (0 < product_of bs) × (product_of bs ≤ 1099511627776))
     → (IsErrOf r TooMany ↔ (40 < length bs))
     → ((p : ℕ) → IsErrOf r (ZeroBase p) ↔ ((length bs ≤ 40) × (position (λ b. b == 0) bs ≡ Some p)))

@@ -20,11 +20,13 @@ there_member : (x : ℕ) (xs : List ℕ) → is_there x xs ≡ is_member x xs
 there_member x [] = refl
 there_member x (y ∷ xs) = ap (λ (b : Bool). (y == x) || b) (there_member x xs)
 
-different_after : (walk : List (ℕ × ℕ)) (before : List ℕ) → IsWalk walk before → AllDifferent before → AllDifferent (after walk before)
+different_after : (walk : List (ℕ × ℕ)) (before : List ℕ) → IsWalk walk before → AllDifferent before
+    → AllDifferent (after walk before)
 different_after [] before w d = d
 different_after (s ∷ walk) before w d = different_after walk (s.0 ∷ before) w.2 (sym (there_member s.0 before) ∙ w.0, d)
 
-after_below : (n : ℕ) (walk : List (ℕ × ℕ)) (before : List ℕ) → Within walk n → ((v : ℕ) → is_member v before ≡ true → v < n)
+after_below : (n : ℕ) (walk : List (ℕ × ℕ)) (before : List ℕ) → Within walk n
+    → ((v : ℕ) → is_member v before ≡ true → v < n)
     → (v : ℕ) → is_member v (after walk before) ≡ true → v < n
 after_below n [] before w f v m = f v m
 after_below n (s ∷ walk) before w f v m = after_below n walk (s.0 ∷ before) w.1 more v m
@@ -33,7 +35,8 @@ after_below n (s ∷ walk) before w f v m = after_below n walk (s.0 ∷ before) 
     later u x b h ne = grind (arith, nat_tests)
 
     more : (u : ℕ) → is_member u (s.0 ∷ before) ≡ true → u < n
-    more u h = ⊎_elim (λ e. subst (λ z. z < n) e w.0) (λ ne. f u (later u s.0 (is_member u before) h ne)) (cases_eq s.0 u)
+    more u h =
+        ⊎_elim (λ e. subst (λ z. z < n) e w.0) (λ ne. f u (later u s.0 (is_member u before) h ne)) (cases_eq s.0 u)
 
 length-after : (walk : List (ℕ × ℕ)) (before : List ℕ) → length (after walk before) ≡ length walk + length before
 length-after [] before = omega arith
@@ -56,10 +59,12 @@ walk_short n walk some w i =
         one : (b : Bool) → (b || false) ≡ true → b ≡ true
         one b h = grind arith
 
-ends_below : (n u v : ℕ) → (nat_lt (edge_between u v).0 (edge_between u v).1 && nat_lt (edge_between u v).1 n) ≡ true → (u < n) × (v < n)
+ends_below : (n u v : ℕ) → (nat_lt (edge_between u v).0 (edge_between u v).1 && nat_lt (edge_between u v).1 n) ≡ true
+    → (u < n) × (v < n)
 ends_below n u v h = (grind (arith, nat_tests), grind (arith, nat_tests))
 
-within_along : (n : ℕ) (es walk : List (ℕ × ℕ)) → list_all (λ e. nat_lt e.0 e.1 && nat_lt e.1 n) es ≡ true → AlongEdges es walk → AreWithin n walk
+within_along : (n : ℕ) (es walk : List (ℕ × ℕ)) → list_all (λ e. nat_lt e.0 e.1 && nat_lt e.1 n) es ≡ true
+    → AlongEdges es walk → AreWithin n walk
 within_along n es [] h a = tt
 within_along n es (s ∷ walk) h a =
     let e = ends_below n s.0 s.1 (each_of (λ e. nat_lt e.0 e.1 && nat_lt e.1 n) es h a.0) in
@@ -110,7 +115,8 @@ first_there = record { long = refl; at = at }
     at zero h = refl
     at (suc v) h = no_mark 10 v ∙ sym (none v)
 
-more_there : (marks : List Bool) (before : List ℕ) (v : ℕ) → v < 11 → AreThere marks before → AreThere (set marks v true) (v ∷ before)
+more_there : (marks : List Bool) (before : List ℕ) (v : ℕ) → v < 11 → AreThere marks before
+    → AreThere (set marks v true) (v ∷ before)
 more_there marks before v h a = record {
   long = length-set marks v true ∙ a.long;
   at = λ u k. at u k (cases_eq v u);
@@ -123,28 +129,36 @@ more_there marks before v h a = record {
     old u b ne = grind (arith, nat_tests)
 
     at : (u : ℕ) → u < 11 → (v ≡ u) ⊎ (v ≢ u) → get_or (set marks v true) u false ≡ ((v == u) || is_there u before)
-    at u k (inl e) = subst (λ z. get_or (set marks v true) z false ≡ true) e (get_or-set_same marks v true false (let l = a.long in omega arith)) ∙ sym (new u (is_there u before) e)
-    at u k (inr ne) = get_or-set_other marks v u true false (λ e. ne (sym e)) ∙ a.at u k ∙ sym (old u (is_there u before) ne)
+    at u k (inl e) =
+        subst (λ z. get_or (set marks v true) z false ≡ true) e
+        (get_or-set_same marks v true false (let l = a.long in omega arith))
+        ∙ sym (new u (is_there u before) e)
+    at u k (inr ne) =
+        get_or-set_other marks v u true false (λ e. ne (sym e)) ∙ a.at u k ∙ sym (old u (is_there u before) ne)
 
 -- ---- the walk in the midst of a round
 pub record IsWalking (n : ℕ) (es : List (ℕ × ℕ)) (rounds : ℕ) (rest : List (ℕ × ℕ)) (walk : List (ℕ × ℕ)) (marks : List Bool) : Type 0 where
   pub there : AreThere marks (after walk (0 ∷ []))
   pub whole : walk ++ (steps_of rest (after walk (0 ∷ [])) ++ walk_in rounds es (after (steps_of rest (after walk (0 ∷ []))) (after walk (0 ∷ [])))) ≡ walk_in n es (0 ∷ [])
 
-pub walking_start : (n : ℕ) (es : List (ℕ × ℕ)) (marks : List Bool) → marks ≡ true ∷ replicate 10 false → IsWalking n es n [] [] marks
+pub walking_start : (n : ℕ) (es : List (ℕ × ℕ)) (marks : List Bool) → marks ≡ true ∷ replicate 10 false
+    → IsWalking n es n [] [] marks
 walking_start n es marks e = record { there = subst (λ m. AreThere m (0 ∷ [])) (sym e) first_there; whole = refl }
 
 -- a round begins
-pub walking_round : (n : ℕ) (es : List (ℕ × ℕ)) (rounds more : ℕ) (walk : List (ℕ × ℕ)) (marks : List Bool) → rounds ≡ suc more → IsWalking n es rounds [] walk marks → IsWalking n es more es walk marks
+pub walking_round : (n : ℕ) (es : List (ℕ × ℕ)) (rounds more : ℕ) (walk : List (ℕ × ℕ)) (marks : List Bool)
+    → rounds ≡ suc more → IsWalking n es rounds [] walk marks → IsWalking n es more es walk marks
 walking_round n es rounds more walk marks e w =
     let v = subst (λ k. IsWalking n es k [] walk marks) e w in
     record { there = v.there; whole = v.whole }
 
 -- a round ends
-pub walking_end : (n : ℕ) (es : List (ℕ × ℕ)) (rounds i : ℕ) (walk : List (ℕ × ℕ)) (marks : List Bool) → length es ≤ i → IsWalking n es rounds (drop i es) walk marks → IsWalking n es rounds [] walk marks
+pub walking_end : (n : ℕ) (es : List (ℕ × ℕ)) (rounds i : ℕ) (walk : List (ℕ × ℕ)) (marks : List Bool) → length es ≤ i
+    → IsWalking n es rounds (drop i es) walk marks → IsWalking n es rounds [] walk marks
 walking_end n es rounds i walk marks h w = subst (λ l. IsWalking n es rounds l walk marks) (drop_of_length-le es h) w
 
-step_taken : (e : ℕ × ℕ) (es : List (ℕ × ℕ)) (before : List ℕ) (s : ℕ × ℕ) → step_by e (is_there e.0 before) (is_there e.1 before) ≡ Some s
+step_taken : (e : ℕ × ℕ) (es : List (ℕ × ℕ)) (before : List ℕ) (s : ℕ × ℕ)
+    → step_by e (is_there e.0 before) (is_there e.1 before) ≡ Some s
     → steps_of (e ∷ es) before ≡ s ∷ steps_of es (s.0 ∷ before)
 step_taken e es before s h = cases (is_there e.0 before) (is_there e.1 before) h
   where
@@ -152,23 +166,27 @@ step_taken e es before s h = cases (is_there e.0 before) (is_there e.1 before) h
     some_is p q e = cc
 
     cases : (a b : Bool) → step_by e a b ≡ Some s
-        → (if a && not b then (e.1, e.0) ∷ steps_of es (e.1 ∷ before) else if b && not a then (e.0, e.1) ∷ steps_of es (e.0 ∷ before) else steps_of es before) ≡ s ∷ steps_of es (s.0 ∷ before)
+        → (if a && not b then (e.1, e.0) ∷ steps_of es (e.1 ∷ before) else if b && not a then (e.0, e.1) ∷ steps_of es (e.0 ∷ before) else steps_of es before)
+        ≡ s ∷ steps_of es (s.0 ∷ before)
     cases true false h = ap (λ (t : ℕ × ℕ). t ∷ steps_of es (t.0 ∷ before)) (some_is (e.1, e.0) s h)
     cases false true h = ap (λ (t : ℕ × ℕ). t ∷ steps_of es (t.0 ∷ before)) (some_is (e.0, e.1) s h)
     cases true true h = cc
     cases false false h = cc
 
-no_step : (e : ℕ × ℕ) (es : List (ℕ × ℕ)) (before : List ℕ) → step_by e (is_there e.0 before) (is_there e.1 before) ≡ None → steps_of (e ∷ es) before ≡ steps_of es before
+no_step : (e : ℕ × ℕ) (es : List (ℕ × ℕ)) (before : List ℕ)
+    → step_by e (is_there e.0 before) (is_there e.1 before) ≡ None → steps_of (e ∷ es) before ≡ steps_of es before
 no_step e es before h = cases (is_there e.0 before) (is_there e.1 before) h
   where
     cases : (a b : Bool) → step_by e a b ≡ None
-        → (if a && not b then (e.1, e.0) ∷ steps_of es (e.1 ∷ before) else if b && not a then (e.0, e.1) ∷ steps_of es (e.0 ∷ before) else steps_of es before) ≡ steps_of es before
+        → (if a && not b then (e.1, e.0) ∷ steps_of es (e.1 ∷ before) else if b && not a then (e.0, e.1) ∷ steps_of es (e.0 ∷ before) else steps_of es before)
+        ≡ steps_of es before
     cases true false h = cc
     cases false true h = cc
     cases true true h = refl
     cases false false h = refl
 
-after-push : (walk : List (ℕ × ℕ)) (s : ℕ × ℕ) (before : List ℕ) → after (walk ++ s ∷ []) before ≡ s.0 ∷ after walk before
+after-push : (walk : List (ℕ × ℕ)) (s : ℕ × ℕ) (before : List ℕ)
+    → after (walk ++ s ∷ []) before ≡ s.0 ∷ after walk before
 after-push [] s before = refl
 after-push (t ∷ walk) s before = after-push walk s (t.0 ∷ before)
 
@@ -190,16 +208,21 @@ step_ends e s false true h p q = subst (λ (t : ℕ × ℕ). t.0 < 11) (some_is 
 step_ends e s true true h p q = cc
 step_ends e s false false h p q = cc
 
-at_edge : (n : ℕ) (es : List (ℕ × ℕ)) (rounds i : ℕ) (walk : List (ℕ × ℕ)) (marks : List Bool) → i < length es → IsWalking n es rounds (drop i es) walk marks
+at_edge : (n : ℕ) (es : List (ℕ × ℕ)) (rounds i : ℕ) (walk : List (ℕ × ℕ)) (marks : List Bool) → i < length es
+    → IsWalking n es rounds (drop i es) walk marks
     → IsWalking n es rounds (get_or es i (0, 0) ∷ drop (i + 1) es) walk marks
 at_edge n es rounds i walk marks h w = subst (λ l. IsWalking n es rounds l walk marks) (drop_more es i (0, 0) h) w
 
-found_step : (n : ℕ) (es : List (ℕ × ℕ)) (e : ℕ × ℕ) (walk : List (ℕ × ℕ)) (marks : List Bool) (o : Option (ℕ × ℕ)) → e.0 < 11 → e.1 < 11
+found_step : (n : ℕ) (es : List (ℕ × ℕ)) (e : ℕ × ℕ) (walk : List (ℕ × ℕ)) (marks : List Bool) (o : Option (ℕ × ℕ))
+    → e.0 < 11 → e.1 < 11
     → AreThere marks (after walk (0 ∷ [])) → o ≡ step_by e (get_or marks e.0 false) (get_or marks e.1 false)
     → step_by e (is_there e.0 (after walk (0 ∷ []))) (is_there e.1 (after walk (0 ∷ []))) ≡ o
-found_step n es e walk marks o p q a h = ap (λ b. step_by e b (is_there e.1 (after walk (0 ∷ [])))) (sym (a.at e.0 p)) ∙ ap (λ b. step_by e (get_or marks e.0 false) b) (sym (a.at e.1 q)) ∙ sym h
+found_step n es e walk marks o p q a h =
+    ap (λ b. step_by e b (is_there e.1 (after walk (0 ∷ [])))) (sym (a.at e.0 p))
+    ∙ ap (λ b. step_by e (get_or marks e.0 false) b) (sym (a.at e.1 q)) ∙ sym h
 
-stepped_at : (n : ℕ) (es : List (ℕ × ℕ)) (rounds : ℕ) (e : ℕ × ℕ) (rest walk : List (ℕ × ℕ)) (marks : List Bool) (s : ℕ × ℕ) → length (walk_in n es (0 ∷ [])) ≤ 10
+stepped_at : (n : ℕ) (es : List (ℕ × ℕ)) (rounds : ℕ) (e : ℕ × ℕ) (rest walk : List (ℕ × ℕ)) (marks : List Bool) (s : ℕ × ℕ)
+    → length (walk_in n es (0 ∷ [])) ≤ 10
     → e.0 < 11 → e.1 < 11 → step_by e (is_there e.0 (after walk (0 ∷ []))) (is_there e.1 (after walk (0 ∷ []))) ≡ Some s
     → IsWalking n es rounds (e ∷ rest) walk marks → Stepped n es rounds rest walk marks s
 stepped_at n es rounds e rest walk marks s short p q found w =
@@ -208,13 +231,15 @@ stepped_at n es rounds e rest walk marks s short p q found w =
     let from = λ (st : List (ℕ × ℕ)). walk ++ (st ++ walk_in rounds es (after st before)) in
     let whole : walk ++ (s ∷ (steps_of rest (s.0 ∷ before) ++ walk_in rounds es (after (steps_of rest (s.0 ∷ before)) (s.0 ∷ before)))) ≡ walk_in n es (0 ∷ []) =
     ap from (sym taken) ∙ w.whole in
-    let tail = steps_of rest (s.0 ∷ before) ++ walk_in rounds es (after (steps_of rest (s.0 ∷ before)) (s.0 ∷ before)) in
+    let tail =
+    steps_of rest (s.0 ∷ before) ++ walk_in rounds es (after (steps_of rest (s.0 ∷ before)) (s.0 ∷ before)) in
     let pushed = after-push walk s (0 ∷ []) in
     record {
       room = room tail whole;
       new = step_ends e s (is_there e.0 before) (is_there e.1 before) found p q;
       next = record {
-        there = subst (AreThere (set marks s.0 true)) (sym pushed) (more_there marks before s.0 (step_ends e s (is_there e.0 before) (is_there e.1 before) found p q) w.there);
+        there = subst (AreThere (set marks s.0 true)) (sym pushed)
+            (more_there marks before s.0 (step_ends e s (is_there e.0 before) (is_there e.1 before) found p q) w.there);
         whole = ap (λ b. (walk ++ s ∷ []) ++ (steps_of rest b ++ walk_in rounds es (after (steps_of rest b) b))) pushed
             ∙ append_assoc walk (s ∷ []) tail ∙ whole;
       };
@@ -223,8 +248,11 @@ stepped_at n es rounds e rest walk marks s short p q found w =
     room : (tail : List (ℕ × ℕ)) → walk ++ (s ∷ tail) ≡ walk_in n es (0 ∷ []) → length walk < 10
     room tail e = let l = length-append walk (s ∷ tail) in let m = ap length e in omega arith
 
-pub stepped : (n : ℕ) (es : List (ℕ × ℕ)) (rounds i : ℕ) (walk : List (ℕ × ℕ)) (marks : List Bool) (o : Option (ℕ × ℕ)) (s : ℕ × ℕ) → n ≤ 11 → is_tree n es ≡ true → i < length es
-    → o ≡ step_by (get_or es i (0, 0)) (get_or marks (get_or es i (0, 0)).0 false) (get_or marks (get_or es i (0, 0)).1 false) → o ≡ Some s
+pub stepped : (n : ℕ) (es : List (ℕ × ℕ)) (rounds i : ℕ) (walk : List (ℕ × ℕ)) (marks : List Bool) (o : Option (ℕ × ℕ)) (s : ℕ × ℕ)
+    → n ≤ 11 → is_tree n es ≡ true → i < length es
+    → o
+    ≡ step_by (get_or es i (0, 0)) (get_or marks (get_or es i (0, 0)).0 false) (get_or marks (get_or es i (0, 0)).1 false)
+    → o ≡ Some s
     → IsWalking n es rounds (drop i es) walk marks → Stepped n es rounds (drop (i + 1) es) walk marks s
 stepped n es rounds i walk marks o s most t h is some w =
     let e = get_or es i (0, 0) in
@@ -235,8 +263,11 @@ stepped n es rounds i walk marks o s most t h is some w =
     stepped_at n es rounds e (drop (i + 1) es) walk marks s k.short first second
     (found_step n es e walk marks o first second w.there is ∙ some) (at_edge n es rounds i walk marks h w)
 
-pub not_stepped : (n : ℕ) (es : List (ℕ × ℕ)) (rounds i : ℕ) (walk : List (ℕ × ℕ)) (marks : List Bool) (o : Option (ℕ × ℕ)) → n ≤ 11 → is_tree n es ≡ true → i < length es
-    → o ≡ step_by (get_or es i (0, 0)) (get_or marks (get_or es i (0, 0)).0 false) (get_or marks (get_or es i (0, 0)).1 false) → o ≡ None
+pub not_stepped : (n : ℕ) (es : List (ℕ × ℕ)) (rounds i : ℕ) (walk : List (ℕ × ℕ)) (marks : List Bool) (o : Option (ℕ × ℕ))
+    → n ≤ 11 → is_tree n es ≡ true → i < length es
+    → o
+    ≡ step_by (get_or es i (0, 0)) (get_or marks (get_or es i (0, 0)).0 false) (get_or marks (get_or es i (0, 0)).1 false)
+    → o ≡ None
     → IsWalking n es rounds (drop i es) walk marks → IsWalking n es rounds (drop (i + 1) es) walk marks
 not_stepped n es rounds i walk marks o most t h is none w =
     let e = get_or es i (0, 0) in
@@ -249,42 +280,53 @@ not_stepped n es rounds i walk marks o most t h is none w =
     let same = no_step e (drop (i + 1) es) before (found_step n es e walk marks o first second w.there is ∙ none) in
     record { there = v.there; whole = ap (λ st. walk ++ (st ++ walk_in rounds es (after st before))) (sym same) ∙ v.whole }
 
-pub walked : (n : ℕ) (es : List (ℕ × ℕ)) (rounds : ℕ) (walk : List (ℕ × ℕ)) (marks : List Bool) → rounds ≡ 0 → IsWalking n es rounds [] walk marks → walk ≡ walk_in n es (0 ∷ [])
+pub walked : (n : ℕ) (es : List (ℕ × ℕ)) (rounds : ℕ) (walk : List (ℕ × ℕ)) (marks : List Bool) → rounds ≡ 0
+    → IsWalking n es rounds [] walk marks → walk ≡ walk_in n es (0 ∷ [])
 walked n es rounds walk marks e w = let v = subst (λ k. IsWalking n es k [] walk marks) e w in none walk ∙ v.whole
   where
     none : (l : List (ℕ × ℕ)) → l ≡ l ++ []
     none [] = refl
     none (x ∷ l) = ap (λ r. x ∷ r) (none l)
 
--- where all vertices are reached, later rounds add nothing
-pub walked_all : (n : ℕ) (es : List (ℕ × ℕ)) (rounds : ℕ) (walk : List (ℕ × ℕ)) (marks : List Bool) → n ≤ 11 → is_tree n es ≡ true → n ≤ length walk + 1
+-- if all vertices are reached, later rounds add nothing
+pub walked_all : (n : ℕ) (es : List (ℕ × ℕ)) (rounds : ℕ) (walk : List (ℕ × ℕ)) (marks : List Bool) → n ≤ 11
+    → is_tree n es ≡ true → n ≤ length walk + 1
     → IsWalking n es rounds [] walk marks → walk ≡ walk_in n es (0 ∷ [])
-walked_all n es rounds walk marks most t all w = alone (walk_in rounds es (after walk (0 ∷ []))) w.whole (walk_of_tree n es most t).few
+walked_all n es rounds walk marks most t all w =
+    alone (walk_in rounds es (after walk (0 ∷ []))) w.whole (walk_of_tree n es most t).few
   where
     none : (l : List (ℕ × ℕ)) → l ≡ l ++ []
     none [] = refl
     none (x ∷ l) = ap (λ r. x ∷ r) (none l)
 
-    alone : (tail : List (ℕ × ℕ)) → walk ++ tail ≡ walk_in n es (0 ∷ []) → length (walk_in n es (0 ∷ [])) + 1 ≤ n → walk ≡ walk_in n es (0 ∷ [])
+    alone : (tail : List (ℕ × ℕ)) → walk ++ tail ≡ walk_in n es (0 ∷ []) → length (walk_in n es (0 ∷ [])) + 1 ≤ n
+        → walk ≡ walk_in n es (0 ∷ [])
     alone [] e few = none walk ∙ e
     alone (x ∷ tail) e few = absurd (let l = length-append walk (x ∷ tail) in let m = ap length e in omega arith)
 
 -- ---- colours and digits along a walk, one step after the other
-pub within_at : (n : ℕ) (walk : List (ℕ × ℕ)) (i : ℕ) → AreWithin n walk → i < length walk → ((get_or walk i (0, 0)).0 < n) × ((get_or walk i (0, 0)).1 < n)
+pub within_at : (n : ℕ) (walk : List (ℕ × ℕ)) (i : ℕ) → AreWithin n walk → i < length walk
+    → ((get_or walk i (0, 0)).0 < n) × ((get_or walk i (0, 0)).1 < n)
 within_at n [] i w h = absurd (omega arith)
 within_at n (s ∷ walk) zero w h = (w.0, w.1)
 within_at n (s ∷ walk) (suc i) w h = within_at n walk i w.2 (omega arith)
 
-pub colour_step : (walk : List (ℕ × ℕ)) (ds cs all : List ℕ) (i : ℕ) → i < length walk → coloured (drop i walk) ds cs ≡ all
-    → coloured (drop (i + 1) walk) ds (set cs (get_or walk i (0, 0)).0 (lifted (get_or ds (get_or walk i (0, 0)).0 0) (get_or cs (get_or walk i (0, 0)).1 0))) ≡ all
+pub colour_step : (walk : List (ℕ × ℕ)) (ds cs all : List ℕ) (i : ℕ) → i < length walk
+    → coloured (drop i walk) ds cs ≡ all
+    → coloured (drop (i + 1) walk) ds (set cs (get_or walk i (0, 0)).0 (lifted (get_or ds (get_or walk i (0, 0)).0 0) (get_or cs (get_or walk i (0, 0)).1 0)))
+    ≡ all
 colour_step walk ds cs all i h e = sym (ap (λ w. coloured w ds cs) (drop_more walk i (0, 0) h)) ∙ e
 
-pub colour_end : (walk : List (ℕ × ℕ)) (ds cs all : List ℕ) (i : ℕ) → length walk ≤ i → coloured (drop i walk) ds cs ≡ all → cs ≡ all
+pub colour_end : (walk : List (ℕ × ℕ)) (ds cs all : List ℕ) (i : ℕ) → length walk ≤ i
+    → coloured (drop i walk) ds cs ≡ all → cs ≡ all
 colour_end walk ds cs all i h e = sym (ap (λ w. coloured w ds cs) (drop_of_length-le walk h)) ∙ e
 
-pub digit_step : (walk : List (ℕ × ℕ)) (cs ds all : List ℕ) (i : ℕ) → i < length walk → digits_of (drop i walk) cs ds ≡ all
-    → digits_of (drop (i + 1) walk) cs (set ds (get_or walk i (0, 0)).0 (place_of (get_or cs (get_or walk i (0, 0)).0 0) (get_or cs (get_or walk i (0, 0)).1 0))) ≡ all
+pub digit_step : (walk : List (ℕ × ℕ)) (cs ds all : List ℕ) (i : ℕ) → i < length walk
+    → digits_of (drop i walk) cs ds ≡ all
+    → digits_of (drop (i + 1) walk) cs (set ds (get_or walk i (0, 0)).0 (place_of (get_or cs (get_or walk i (0, 0)).0 0) (get_or cs (get_or walk i (0, 0)).1 0)))
+    ≡ all
 digit_step walk cs ds all i h e = sym (ap (λ w. digits_of w cs ds) (drop_more walk i (0, 0) h)) ∙ e
 
-pub digit_end : (walk : List (ℕ × ℕ)) (cs ds all : List ℕ) (i : ℕ) → length walk ≤ i → digits_of (drop i walk) cs ds ≡ all → ds ≡ all
+pub digit_end : (walk : List (ℕ × ℕ)) (cs ds all : List ℕ) (i : ℕ) → length walk ≤ i
+    → digits_of (drop i walk) cs ds ≡ all → ds ≡ all
 digit_end walk cs ds all i h e = sym (ap (λ w. digits_of w cs ds) (drop_of_length-le walk h)) ∙ e

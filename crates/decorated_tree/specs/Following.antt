@@ -20,7 +20,8 @@ first_degrees k d = replicate (k - 1) 1 ++ (d - (k - 1)) ∷ []
 -- the list of degrees with the next rank, or after the last list the first one
 abbrev pub DegreesGoOn : ℕ → List ℕ → List ℕ → Bool → Type 0
 DegreesGoOn d old new true = AreDegrees (length old) d new × (binomial_rank new d ≡ binomial_rank old d + 1)
-DegreesGoOn d old new false = (new ≡ first_degrees (length old) d) × (binomial_rank old d + 1 ≡ choose (d - 1) (length old - 1))
+DegreesGoOn d old new false =
+    (new ≡ first_degrees (length old) d) × (binomial_rank old d + 1 ≡ choose (d - 1) (length old - 1))
 
 -- the bases of the digits of colours
 abbrev pub colour_bases : ℕ → ℕ → List ℕ
@@ -36,7 +37,7 @@ pub record ColoursGoOn (n r : ℕ) (edges : List (ℕ × ℕ)) (old new : List �
 abbrev pub joins_colour : ℕ → ℕ → List ℕ → ℕ × ℕ → Bool
 joins_colour last colour colours e = (e.1 == last) && (slice_index colours e.0 == colour)
 
--- a tree with the next number, and 0 in the places past the used ones
+-- a tree with the next number, whose entries past the used ones are 0
 pub record IsTreeAfter (s : TreeShape) (t u : Tree) : Type 0 where
   pub decorated : is_decorated s (tree_view u) ≡ true
   pub number : number_of s (tree_view u) ≡ number_of s (tree_view t) + 1

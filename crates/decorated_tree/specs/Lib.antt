@@ -1,6 +1,6 @@
 pub mod Ranks
 pub mod Shapes
-pub mod NumbersFields
+pub mod NumberListFields
 pub mod ShapeFields
 pub mod Trees
 pub mod Steps

@@ -7,7 +7,8 @@ abbrev pub lists_passed : ℕ → ℕ → ℕ → ℕ
 lists_passed d n zero = 0
 lists_passed d n (suc b) = lists_passed d n b + choose (d - (b + 1) - 1) (n - 1)
 
--- the lists with a smaller first number are counted by binomials, and then those with the same first number by their rests
+-- the lists with a smaller first number are counted by binomials, and then those with the same first number by their
+-- rests
 abbrev pub binomial_rank : List ℕ → ℕ → ℕ
 binomial_rank [] d = 0
 binomial_rank (a ∷ []) d = 0

@@ -5,10 +5,10 @@ ghost use Rattle.trees.specs.Numbering.{choose};
 ghost use Rattle.trees.specs.Numbers.{bases, trees_with};
 ghost use Rattle.decorated_tree.specs.Shapes.{shape_of};
 
-use crate::numbers::Numbers;
+use crate::number_list::NumberList;
 use mixed_radix::{MOST_NUMBERS, Radix};
 
-/// The binomials: n over k stands in row n at place k.
+/// The binomials: n over k stands in row n at index k.
 const BINOMIALS: [[u8; 10]; 10] = [
     [1, 0, 0, 0, 0, 0, 0, 0, 0, 0],
     [1, 1, 0, 0, 0, 0, 0, 0, 0, 0],
@@ -32,8 +32,9 @@ pub(crate) fn choose(n: u8, k: u8) -> u64
     BINOMIALS[n as usize][k as usize] as u64
 }
 
-/// The bases of the digits of a tree with `n` vertices, of the greatest colour `r`, the sum of degrees `d` and `m` marks.
-pub(crate) fn bases(r: u8, d: u8, m: u8, n: u8) -> Numbers
+/// The bases of the digits of a tree with `n` vertices, of the greatest colour `r`, the sum of degrees `d` and `m`
+/// marks.
+pub(crate) fn bases(r: u8, d: u8, m: u8, n: u8) -> NumberList
     requires rank { r ≤ 12 }
     requires degree { d ≤ 10 }
     requires marks { m ≤ 12 }
@@ -41,7 +42,7 @@ pub(crate) fn bases(r: u8, d: u8, m: u8, n: u8) -> Numbers
     requires most { n ≤ d + 1 }
     ensures { result ≡ bases (shape_of r d m) n }
 {
-    let mut bases = Numbers::empty();
+    let mut bases = NumberList::empty();
     bases.push_times(n as u64, n - 2);
     bases.push(r as u64 + 1);
     bases.push_times(r as u64, n - 1);

@@ -1,8 +1,8 @@
 //! The tree after a tree, made in place.
 //!
 //! The digits of a number of a tree go on as those of a counter: the marks first, then the degrees, then the colours.
-//! Only where all of these go back to their first values does the next tree have other edges. Of the colours that of the
-//! last vertex comes first, and its neighbours often tell that no other changes; else the tree is walked.
+//! Only if all of these go back to their first values does the next tree have other edges. Of the colours that of the
+//! last vertex comes first. Its neighbours often show that no other changes; otherwise the tree is walked.
 
 ghost use Rattle.std.specs.Prelude.{◌≡◌, ℕ, ◌+◌, ◌-◌, ◌<◌, ◌≤◌, ◌==◌, nat_le, true, [], ◌∷◌, length, replicate, sum, IsTrue};
 ghost use Rattle.std.specs.Bool.{OnTrue, OnFalse};
@@ -24,7 +24,7 @@ use crate::walk::{colour, uncolour, walk_from_zero};
 impl Shape {
     /// Goes on from the tree of the number `k` to that of `k` + 1, which is below [`Shape::count`]. It takes no memory.
     ///
-    /// Where the two have the same edges, only what differs is written: the marks alone, or the marks and the degrees, or
+    /// If the two have the same edges, only what differs is written: the marks alone, or the marks and the degrees, or
     /// the colours too.
     pub fn next(&self, k: u64, tree: &mut Tree)
         requires more { k + 1 < tree_count self.now }
@@ -90,10 +90,11 @@ fn next_word(base: u8, letters: &mut [u8]) -> bool
     false
 }
 
-/// Goes on to the next list of positive degrees with the same sum in lexicographic order, and says whether there is one.
+/// Goes on to the next list of positive degrees with the same sum in lexicographic order, and says whether there is
+/// one.
 ///
-/// The last degree above 1 gives 1 to the degree before it and keeps 1, and the rest goes to the end of the list. Where only
-/// the first one is above 1, the list is the last one, and after it comes the first one.
+/// The last degree above 1 gives 1 to the degree before it and keeps 1, and the rest goes to the end of the list. If
+/// only the first one is above 1, the list is the last one, and after it comes the first one.
 fn next_degrees(degrees: &mut [u8]) -> bool
     requires some { 0 < length degrees.old }
     requires positive { IsTrue (list_all (λ a. nat_le 1 a) degrees.old) }
@@ -116,11 +117,12 @@ fn next_degrees(degrees: &mut [u8]) -> bool
     false
 }
 
-/// Goes on to the next colours by that of the last vertex alone, and says whether that does it. Else all stay.
+/// Goes on to the next colours by changing that of the last vertex alone, and says whether that suffices. Otherwise no
+/// colour is changed.
 ///
-/// The last digit is that of the last vertex. The colour goes up by one where no neighbour has the new one: then the vertices
-/// that are reached through this one keep their digits with their colours. Where the only neighbour has it, nothing is
-/// reached through the last vertex, and its colour goes up by two.
+/// The last digit is that of the last vertex. The colour goes up by one if no neighbour has the new one: then the
+/// vertices that are reached through this one keep their digits with their colours. If the only neighbour has it,
+/// nothing is reached through the last vertex, and its colour goes up by two.
 fn raise_last_colour(n: u8, r: u8, edges: &[(u8, u8)], colours: &mut [u8]) -> bool
     requires least { 2 ≤ n }
     requires rank { r ≤ 12 }
@@ -167,8 +169,8 @@ fn has_one_neighbour(last: u8, edges: &[(u8, u8)]) -> bool
 
 /// Goes on to the next colours of the vertices of a tree, and says whether there are any.
 ///
-/// The digit of vertex 0 is its colour, and that of each other vertex the place of its colour among those other than the
-/// colour of the neighbour on the way to vertex 0.
+/// The digit of vertex 0 is its colour, and that of each other vertex the index of its colour among those other than
+/// the colour of the neighbour on the way to vertex 0.
 fn next_colours(n: u8, r: u8, edges: &[(u8, u8)], colours: &mut [u8]) -> bool
     requires most { n ≤ 11 }
     requires rank { r ≤ 12 }

@@ -8,7 +8,7 @@ ghost use Rattle.trees.specs.Numbers.{bases, tree_count, trees_from};
 ghost use Rattle.decorated_tree.specs.Shapes.{shape_of, within_limits, counts_of};
 
 use crate::bases::radix;
-use crate::numbers::Numbers;
+use crate::number_list::NumberList;
 use mixed_radix::{MOST_NUMBERS, Radix};
 use std::marker::Model;
 
@@ -24,7 +24,8 @@ pub const MOST_MARKS: u8 = 12;
 /// Why three numbers are no shape.
 #[derive(Clone, Copy, Debug, PartialEq, Eq)]
 pub enum ShapeError {
-    /// The greatest colour is not from 1 to 12, the sum of the degrees not from 1 to 10, or there are more than 12 marks.
+    /// The greatest colour is not from 1 to 12, the sum of the degrees not from 1 to 10, or there are more than 12
+    /// marks.
     OutOfLimits,
 
     /// There are more than 2^40 decorated trees.
@@ -39,7 +40,7 @@ pub struct Shape {
     d: u8,
     m: u8,
     /// How many trees have 2, 3, up to d + 1 vertices.
-    counts: Numbers,
+    counts: NumberList,
     /// How many trees there are.
     count: u64,
 }
@@ -64,7 +65,9 @@ impl Shape {
     /// The shape with the greatest colour `r` from 1 to 12, the sum of degrees `d` from 1 to 10 and `m` marks from 0 to
     /// 12.
     ///
-    /// The refusals are tested in the order of [`ShapeError`]'s variants.
+    /// # Errors
+    /// `OutOfLimits` exactly if one of the three is out of these limits; `TooManyTrees` exactly if they are within them, and
+    /// there are more than 2^40 decorated trees.
     pub fn new(r: u8, d: u8, m: u8) -> Result<Self, ShapeError>
         ensures ok { IfOk result (λ shape. shape ≡ shape_of r d m) }
         ensures accepted { IfOk result (λ _. (within_limits (shape_of r d m) ≡ true) × (tree_count (shape_of r d m) ≤ 2 ^ 40)) }
@@ -75,7 +78,7 @@ impl Shape {
         if !are_within_limits(r, d, m) {
             return Err(ShapeError::OutOfLimits);
         }
-        let mut counts = Numbers::empty();
+        let mut counts = NumberList::empty();
         let mut count = 0;
         for n in 2..d + 2 {
             let Some(radix) = radix(r, d, m, n) else {

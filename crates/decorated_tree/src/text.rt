@@ -11,7 +11,7 @@ use residue::NoMemory;
 /// Appends the text of a tree, one line without its line feed, as `edges 0-1:1 0-2:1 colours 0 1 1 marks -`.
 ///
 /// # Errors
-/// Want of memory. Then the vector is as before.
+/// An error if the allocator refuses memory. Then the vector is as before.
 pub fn write_text(tree: &Tree, to: &mut Vec<u8>) -> Result<(), NoMemory>
     ensures text { OnOk result (to.new.items ≡ to.old.items ++ tree_text (tree_view tree.now)) }
     ensures kept { OnErr result (to.new.items ≡ to.old.items) }
@@ -67,7 +67,7 @@ fn append_edge(to: &mut Vec<u8>, edge: (u8, u8), degree: u8) -> Result<(), NoMem
     append_number(to, degree)
 }
 
-/// Appends the vertices of the marks, or `-` where there is none.
+/// Appends the vertices of the marks, or `-` if there is none.
 fn append_marks(to: &mut Vec<u8>, marks: &[u8]) -> Result<(), NoMemory>
     ensures text { OnOk result (to.new.items ≡ to.old.items ++ marks_text marks.now) }
     ensures grows { Grows to.old.items to.new.items }

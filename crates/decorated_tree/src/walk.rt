@@ -53,8 +53,8 @@ impl Walk {
     }
 }
 
-/// The walk from vertex 0 through a tree on the vertices 0 to `n` - 1, in rounds over the edges in their order, until all
-/// vertices are reached.
+/// The walk from vertex 0 through a tree on the vertices 0 to `n` - 1, in rounds over the edges in their order, until
+/// all vertices are reached.
 pub(crate) fn walk_from_zero(n: u8, edges: &[(u8, u8)]) -> Walk
     requires most { n ≤ 11 }
     requires tree { IsTrue (is_tree n edges.now) }
@@ -92,9 +92,9 @@ fn step_along(edge: (u8, u8), first: bool, second: bool) -> Option<(u8, u8)>
     }
 }
 
-/// Puts the colours of all vertices but the first in the places of their digits.
+/// Replaces the digits of all vertices but the first by their colours.
 ///
-/// The digit of a vertex is the place of its colour among those other than the colour of its neighbour on the way back.
+/// The digit of a vertex is the index of its colour among those other than the colour of its neighbour on the way back.
 pub(crate) fn colour(walk: &[(u8, u8)], digits: &[u8], colours: &mut [u8])
     requires same { length colours.old ≡ length digits.now }
     requires within { AreWithin (length digits.now) walk.now }
@@ -107,7 +107,7 @@ pub(crate) fn colour(walk: &[(u8, u8)], digits: &[u8], colours: &mut [u8])
     }
 }
 
-/// Puts the digits of all vertices but the first in the places of their colours.
+/// Replaces the colours of all vertices but the first by their digits.
 pub(crate) fn uncolour(walk: &[(u8, u8)], colours: &[u8], digits: &mut [u8])
     requires same { length digits.old ≡ length colours.now }
     requires within { AreWithin (length colours.now) walk.now }
@@ -119,7 +119,7 @@ pub(crate) fn uncolour(walk: &[(u8, u8)], colours: &[u8], digits: &mut [u8])
     }
 }
 
-/// The colour with this place among the colours other than `other`, counted upwards from 0.
+/// The colour with this index among the colours other than `other`, counted upwards from 0.
 fn lifted(place: u8, other: u8) -> u8
     requires { place < 255 }
     ensures { result ≡ lifted place other }
@@ -127,7 +127,7 @@ fn lifted(place: u8, other: u8) -> u8
     if place < other { place } else { place + 1 }
 }
 
-/// The place of a colour among the colours other than `other`, and one less than `colour` where it is not below `other`.
+/// The index of a colour among the colours other than `other`: one less than `colour` if it is not below `other`.
 fn place_of(colour: u8, other: u8) -> u8
     ensures { result ≡ place_of colour other }
 {

@@ -6,7 +6,8 @@ use Rattle.arithmetic.proofs.Progressions.{product_below-same, between-progressi
 use Rattle.localisation.specs.Weights.{weight}
 use Rattle.localisation.specs.EdgeFraction.{colour_term, colour_product}
 
-term_is : (a t : ℕ) (x y z : ℤ) → t ≤ a → (pos t *ℤ x +ℤ pos (a - t) *ℤ y) -ℤ pos a *ℤ z ≡ progression (pos a *ℤ (y -ℤ z)) (x -ℤ y) t
+term_is : (a t : ℕ) (x y z : ℤ) → t ≤ a
+    → (pos t *ℤ x +ℤ pos (a - t) *ℤ y) -ℤ pos a *ℤ z ≡ progression (pos a *ℤ (y -ℤ z)) (x -ℤ y) t
 term_is a t x y z h =
     let whole : t + (a - t) ≡ a = omega arith in
     let between : pos t *ℤ x +ℤ pos (a - t) *ℤ y ≡ pos a *ℤ y +ℤ pos t *ℤ (x -ℤ y) =
@@ -15,7 +16,9 @@ term_is a t x y z h =
     omega (arith, ints, between, first)
 
 pub colour_product-progression : (ws : List ℤ) (i j a k : ℕ)
-    → colour_product ws i j a k ≡ product_below (a + 1) (progression (pos a *ℤ (weight ws j -ℤ weight ws k)) (weight ws i -ℤ weight ws j))
+    → colour_product ws i j a k
+    ≡ product_below (a + 1) (progression (pos a *ℤ (weight ws j -ℤ weight ws k)) (weight ws i -ℤ weight ws j))
 unfolding colour_product
 colour_product-progression ws i j a k =
-    product_below-same (a + 1) (colour_term ws i j a k) _ (λ t h. term_is a t (weight ws i) (weight ws j) (weight ws k) (omega arith))
+    product_below-same (a + 1) (colour_term ws i j a k) _
+    (λ t h. term_is a t (weight ws i) (weight ws j) (weight ws k) (omega arith))

@@ -1,2 +1,2 @@
 pub mod ColourTerms
-pub mod Signs
+pub mod SignPowers

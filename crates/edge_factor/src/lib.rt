@@ -19,7 +19,7 @@ use residue::{Modulus, NoUnit, Ratio, Setup};
 /// and `j`, each at most the rank.
 ///
 /// # Errors
-/// `NoUnit` exactly where the bottom of the fraction and the modulus have a common divisor above 1.
+/// `NoUnit` exactly if the bottom of the fraction and the modulus have a common divisor above 1.
 pub fn edge(setup: &Setup, i: u8, j: u8, a: u8, modulus: &Modulus) -> Result<u64, NoUnit>
     requires i_within { i < length setup.now }
     requires j_within { j < length setup.now }
@@ -57,7 +57,7 @@ fn top(setup: &Setup, a: u8, modulus: &Modulus) -> u64
 }
 
 /// The residue of `(-1)^a`.
-#[tactic(auto, using(crate::proofs::Signs::even_sign, crate::proofs::Signs::odd_sign))]
+#[tactic(auto, using(crate::proofs::SignPowers::even_sign, crate::proofs::SignPowers::odd_sign))]
 fn sign(a: u64, modulus: &Modulus) -> u64
     ensures { Leaves modulus.now (power (negsuc 0) a) result }
 {

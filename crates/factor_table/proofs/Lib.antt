@@ -6,6 +6,6 @@ pub mod Views
 pub mod Moves
 pub mod Keys
 pub mod Refusals
-pub mod Lists
+pub mod InitialWords
 pub mod Laws
 mod Worked

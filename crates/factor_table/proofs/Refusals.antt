@@ -10,7 +10,8 @@ use Rattle.residue.specs.Limits.{IsWeight, is_beyond_limit}
 not_beyond : (w : ℤ) → IsWeight w → is_beyond_limit w ≡ true → ⊥
 not_beyond w h e = grind (arith, nat_tests)
 
-pub never_refused : (ws : List ℤ) (e : SetupError) → 2 ≤ length ws → length ws ≤ 13 → ((colour : ℕ) → colour < length ws → IsWeight (get_or ws colour (pos 0)))
+pub never_refused : (ws : List ℤ) (e : SetupError) → 2 ≤ length ws → length ws ≤ 13
+    → ((colour : ℕ) → colour < length ws → IsWeight (get_or ws colour (pos 0)))
     → ((◌≡◌ {A = Result (List ℤ) SetupError} (Err e) (Err BadCount)) ↔ ((length ws < 2) ⊎ (13 < length ws)))
     → ((place : ℕ) → (◌≡◌ {A = Result (List ℤ) SetupError} (Err e) (Err (BadWeight place))) ↔ ((2 ≤ length ws) × (length ws ≤ 13) × (position is_beyond_limit ws ≡ Some place)))
     → ⊥

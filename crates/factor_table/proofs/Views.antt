@@ -22,32 +22,43 @@ AllFit p words views = (id : ℕ) (v : View) → get_elem? views id ≡ some v �
 pub all_fit : (p : Parameters) (words : List ℕ) (views : List View) → AreFactors p words views → AllFit p words views
 all_fit p words views h id v at = record { told = h.told id v at; known = h.known id v at }
 
-pub after_set : (p : Parameters) (words : List ℕ) (views : List View) (id : ℕ) (w : View) → AllFit p words views → Fits p words w → AllFit p words (set views id w)
-after_set p words views id w old new j u e = ⊎_elim (λ (x : (j ≡ id) × (w ≡ u)). subst (Fits p words) x.1 new) (λ (x : (j ≢ id) × (get_elem? views j ≡ some u)). old j u x.1) (at_set views id j w u e)
+pub after_set : (p : Parameters) (words : List ℕ) (views : List View) (id : ℕ) (w : View) → AllFit p words views
+    → Fits p words w → AllFit p words (set views id w)
+after_set p words views id w old new j u e =
+    ⊎_elim (λ (x : (j ≡ id) × (w ≡ u)). subst (Fits p words) x.1 new)
+    (λ (x : (j ≢ id) × (get_elem? views j ≡ some u)). old j u x.1) (at_set views id j w u e)
 
-pub after_snoc : (p : Parameters) (words : List ℕ) (views : List View) (w : View) → AllFit p words views → Fits p words w → AllFit p words (views ++ w ∷ [])
-after_snoc p words views w old new j u e = ⊎_elim (λ (x : get_elem? views j ≡ some u). old j u x) (λ (is : w ≡ u). subst (Fits p words) is new) (at_snoc views w u j e)
+pub after_snoc : (p : Parameters) (words : List ℕ) (views : List View) (w : View) → AllFit p words views
+    → Fits p words w → AllFit p words (views ++ w ∷ [])
+after_snoc p words views w old new j u e =
+    ⊎_elim (λ (x : get_elem? views j ≡ some u). old j u x) (λ (is : w ≡ u). subst (Fits p words) is new)
+    (at_snoc views w u j e)
 
 pub only_view : (p : Parameters) (words : List ℕ) (w : View) → Fits p words w → AllFit p words (w ∷ [])
 only_view p words w new zero u e = subst (Fits p words) (some-injective w u e) new
 only_view p words w new (suc j) u e = absurd (some-ne-none u (sym e))
 
--- the rule says nothing of the steps that a view tells
-pub fits_moves : (p : Parameters) (words : List ℕ) (v : View) (moves : List Move) → Fits p words v → Fits p words (record v { moves = moves })
+-- the rule does not depend on the steps that a view lists
+pub fits_moves : (p : Parameters) (words : List ℕ) (v : View) (moves : List Move) → Fits p words v
+    → Fits p words (record v { moves = moves })
 fits_moves p words v moves f = record { told = f.told; known = f.known }
 
 -- one place more, which is filled
-pub fits_place : (p : Parameters) (words : List ℕ) (v : View) (place : ℕ) (m : Move) → Fits p words v → IsFilledAt p words place → Fits p words (with_place v place m)
+pub fits_place : (p : Parameters) (words : List ℕ) (v : View) (place : ℕ) (m : Move) → Fits p words v
+    → IsFilledAt p words place → Fits p words (with_place v place m)
 fits_place p words v place m f filled = record {
   told = f.told;
   known = λ x there. ⊎_elim (f.known x) (λ (is : place ≡ x). subst (IsFilledAt p words) is filled) (Contains-push_cases v.known place x there);
 }
 
-pub fits_looked : (p : Parameters) (words : List ℕ) (v : View) (place n : ℕ) → Fits p words v → (n ≢ 0 → IsFilledAt p words place) → Fits p words (looked v place n)
+pub fits_looked : (p : Parameters) (words : List ℕ) (v : View) (place n : ℕ) → Fits p words v
+    → (n ≢ 0 → IsFilledAt p words place) → Fits p words (looked v place n)
 fits_looked p words v place zero f filled = fits_moves p words v (v.moves ++ Load place 0 ∷ []) f
-fits_looked p words v place (suc n) f filled = fits_place p words v place (Load place (suc n)) f (filled (λ h. omega arith))
+fits_looked p words v place (suc n) f filled =
+    fits_place p words v place (Load place (suc n)) f (filled (λ h. omega arith))
 
-pub fits_joined : (p : Parameters) (words : List ℕ) (v w : View) → Fits p words v → Fits p words w → Fits p words (joined v w)
+pub fits_joined : (p : Parameters) (words : List ℕ) (v w : View) → Fits p words v → Fits p words w
+    → Fits p words (joined v w)
 fits_joined p words v w f g = record { told = f.told; known = λ x there. ⊎_elim (f.known x) (g.known x) (Contains-append_cases v.known w.known x there) }
 
 nothing_known : (p : Parameters) (words : List ℕ) (place : ℕ) → Contains {X = ℕ} [] place → IsFilledAt p words place
@@ -60,5 +71,6 @@ pub fits_opening : (p : Parameters) (words : List ℕ) → Fits p words (opening
 fits_opening p words = record { told = λ h. refl; known = nothing_known p words }
 
 -- what is filled stays filled if no word becomes 0
-pub fits_still : (p : Parameters) (words after : List ℕ) (v : View) → ((place : ℕ) → get_or words place 0 ≢ 0 → get_or after place 0 ≢ 0) → Fits p words v → Fits p after v
+pub fits_still : (p : Parameters) (words after : List ℕ) (v : View)
+    → ((place : ℕ) → get_or words place 0 ≢ 0 → get_or after place 0 ≢ 0) → Fits p words v → Fits p after v
 fits_still p words after v stays f = record { told = f.told; known = λ x there. let filled = f.known x there in (filled.0, stays x filled.1) }

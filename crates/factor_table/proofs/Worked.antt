@@ -10,7 +10,7 @@ use Rattle.localisation.specs.ClassValue.{negated_inner_product}
 use Rattle.factor_table.specs.declared.key.Key.TheVariants.{Edge, Flag, Tangent, Pair, ClassEdge, ClassVertex, Tip}
 use Rattle.factor_table.specs.declared.layout.Sizes.{Sizes}
 use Rattle.factor_table.specs.declared.parameters.Parameters.{Parameters}
-use Rattle.factor_table.specs.Places.{words_of_modulus, words_of, place_of}
+use Rattle.factor_table.specs.KeyPlaces.{words_of_modulus, words_of, place_of}
 use Rattle.factor_table.specs.Factors.{parameters, sizes_of, fraction_of, IsWordOf}
 
 -- ---- the greatest table
@@ -31,7 +31,8 @@ greatest_words = refl
 line : Parameters
 line = parameters (pos 1 ∷ pos 3 ∷ []) 2 (101 ∷ []) (R1 1 ∷ [])
 
--- three words for the weights and the modulus, three times 8 for edges, flags and tips, 2 for tangents, 32 for pairs, and 8 and 4 for the class
+-- three words for the weights and the modulus, three times 8 for edges, flags and tips, 2 for tangents, 32 for pairs,
+-- and 8 and 4 for the class
 words_of_line : words_of (sizes_of line) ≡ 73
 unfolding line words_of
 words_of_line = refl
@@ -47,24 +48,29 @@ place_of_last = refl
 
 word_of_edge : IsWordOf 101 (fraction_of line (Edge 0 1 2)) 39
 unfolding line edge_top edge_bottom colour_product other_colours_product last_remainder
-word_of_edge = inl (38, record { below = lit< tt; unit = gcd_by_euclid _ _ 1 refl; divides = dvd_of_mod-eq-zero 101 refl }, refl)
+word_of_edge =
+    inl (38, record { below = lit< tt; unit = gcd_by_euclid _ _ 1 refl; divides = dvd_of_mod-eq-zero 101 refl }, refl)
 
 word_of_pair : IsWordOf 101 (fraction_of line (Pair 0 1 1 1 1)) 52
 unfolding line plain_vertex tangent_product last_remainder
-word_of_pair = inl (51, record { below = lit< tt; unit = gcd_by_euclid _ _ 1 refl; divides = dvd_of_mod-eq-zero 101 refl }, refl)
+word_of_pair =
+    inl (51, record { below = lit< tt; unit = gcd_by_euclid _ _ 1 refl; divides = dvd_of_mod-eq-zero 101 refl }, refl)
 
 word_of_class_edge : IsWordOf 101 (fraction_of line (ClassEdge 0 0 1 2)) 100
 unfolding line negated_inner_product last_remainder
-word_of_class_edge = inl (99, record { below = lit< tt; unit = gcd_by_euclid _ _ 1 refl; divides = dvd_of_mod-eq-zero 101 refl }, refl)
+word_of_class_edge =
+    inl (99, record { below = lit< tt; unit = gcd_by_euclid _ _ 1 refl; divides = dvd_of_mod-eq-zero 101 refl }, refl)
 
 -- the tangent at 0 is 1 - 3, and a tip there is (3 - 1) over its degree
 word_of_tangent : IsWordOf 101 (fraction_of line (Tangent 0)) 100
 unfolding line tangent_product last_remainder
-word_of_tangent = inl (99, record { below = lit< tt; unit = gcd_by_euclid _ _ 1 refl; divides = dvd_of_mod-eq-zero 101 refl }, refl)
+word_of_tangent =
+    inl (99, record { below = lit< tt; unit = gcd_by_euclid _ _ 1 refl; divides = dvd_of_mod-eq-zero 101 refl }, refl)
 
 word_of_tip : IsWordOf 101 (fraction_of line (Tip 0 1 2)) 2
 unfolding line last_remainder
-word_of_tip = inl (1, record { below = lit< tt; unit = gcd_by_euclid _ _ 1 refl; divides = dvd_of_mod-eq-zero 101 refl }, refl)
+word_of_tip =
+    inl (1, record { below = lit< tt; unit = gcd_by_euclid _ _ 1 refl; divides = dvd_of_mod-eq-zero 101 refl }, refl)
 
 -- ---- the weights 1 and 4: their difference is no unit modulo 9
 

@@ -14,7 +14,7 @@ use Rattle.factor_table.specs.declared.key.Key.{Key}
 use Rattle.factor_table.specs.declared.key.Key.TheVariants.{Edge, Flag, Tangent, Pair, ClassEdge, ClassVertex, Tip}
 use Rattle.factor_table.specs.declared.parameters.Parameters.{Parameters}
 use Rattle.factor_table.specs.declared.layout.Sizes.{Sizes}
-use Rattle.factor_table.specs.Places.{IsWithin}
+use Rattle.factor_table.specs.KeyPlaces.{IsWithin}
 
 abbrev pub parameters : List ℤ → ℕ → List ℕ → List Class → Parameters
 parameters setup degree moduli classes = record { setup = setup; degree = degree; moduli = moduli; classes = classes }

@@ -1,4 +1,4 @@
-pub mod Places
+pub mod KeyPlaces
 pub mod Factors
 pub mod Rule
 pub mod Seats

@@ -9,7 +9,7 @@ use Rattle.factor_table.specs.declared.parameters.Parameters.{Parameters}
 use Rattle.factor_table.specs.declared.table.Move.{Move}
 use Rattle.factor_table.specs.declared.table.Move.TheVariants.{Load, Fill, Split, Join}
 use Rattle.factor_table.specs.declared.table.View.{View}
-use Rattle.factor_table.specs.Places.{first_factor, words_of, place_of}
+use Rattle.factor_table.specs.KeyPlaces.{first_factor, words_of, place_of}
 use Rattle.factor_table.specs.Factors.{parameters, sizes_of, modulus_at, fraction_of, IsKeyOf, IsWordOf}
 
 -- the weights modulo 2^64, and the moduli

@@ -8,7 +8,7 @@ use Rattle.factor_table.specs.declared.table.Move.{Move}
 use Rattle.factor_table.specs.declared.table.Move.TheVariants.{Load, Fill}
 use Rattle.factor_table.specs.declared.table.FactorTable.{FactorTable}
 use Rattle.factor_table.specs.declared.table.FactorSeat.{FactorSeat}
-use Rattle.factor_table.specs.Places.{place_of}
+use Rattle.factor_table.specs.KeyPlaces.{place_of}
 use Rattle.factor_table.specs.Factors.{sizes_of, modulus_at, fraction_of}
 
 -- what the factors of the table are of, which no call changes
@@ -44,8 +44,8 @@ IsFactorIn t key modulus answer =
 abbrev pub moves_of : FactorSeat → List Move
 moves_of s = s.seat.me.0.moves
 
--- Between two moments the seat looked once at the word of a place: it loaded it once, and only if it found 0 it made one
--- more step, which exchanged that 0 for a word.
+-- Between two moments the seat looked once at the word of a place: it loaded it once, and only if it found 0 it made
+-- one more step, which exchanged that 0 for a word.
 abbrev pub LooksOnce : ℕ → FactorSeat → FactorSeat → Type 0
 LooksOnce place before after =
     ((found : ℕ) × (found ≢ 0) × (moves_of after ≡ moves_of before ++ Load place found ∷ []))

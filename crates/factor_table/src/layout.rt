@@ -3,7 +3,7 @@
 ghost use Rattle.std.specs.Prelude.{◌≡◌, ℕ, ◌+◌, ◌-◌, ◌*◌, ◌<◌, ◌≤◌, ◌^◌};
 ghost use Rattle.factor_table.specs.declared.key.Key.{Key};
 ghost use Rattle.factor_table.specs.declared.layout.Sizes.{Sizes};
-ghost use Rattle.factor_table.specs.Places.{AreWithinLimits, AreStrides, IsEnd, IsWithin, ends, flags, end_number, flag_number, first_factor, words_of_modulus, words_of, place_of};
+ghost use Rattle.factor_table.specs.KeyPlaces.{AreWithinLimits, AreStrides, IsEnd, IsWithin, ends, flags, end_number, flag_number, first_factor, words_of_modulus, words_of, place_of};
 
 use crate::key::Key;
 
@@ -35,7 +35,7 @@ pub struct Strides {
     words_of_modulus: usize,
 }
 
-/// The places of the words of a table.
+/// The places of the words of a table: the place of a key is the index of its word.
 ///
 /// A place is a sum of a few products by strides, which are computed once.
 #[derive(Debug, Drop)]
@@ -81,7 +81,7 @@ impl Layout {
     }
 
     /// How many words the table has.
-    #[tactic(auto, unfolding(crate::specs::Places::words_of))]
+    #[tactic(auto, unfolding(crate::specs::KeyPlaces::words_of))]
     pub fn words(&self) -> usize
         ensures value { result ≡ words_of self.now.sizes }
         ensures limited { result < 9300000 }
@@ -120,7 +120,7 @@ impl Layout {
 
     /// The place of `Key::Edge`.
     #[inline]
-    #[tactic(auto, unfolding(crate::specs::Places::place_of))]
+    #[tactic(auto, unfolding(crate::specs::KeyPlaces::place_of))]
     pub fn edge(&self, i: u8, j: u8, a: u8, modulus: u8) -> usize
         requires key { IsWithin self.now.sizes (Key.Edge i j a) }
         requires modulus { modulus < self.now.sizes.moduli }
@@ -132,7 +132,7 @@ impl Layout {
 
     /// The place of `Key::Flag`.
     #[inline]
-    #[tactic(auto, unfolding(crate::specs::Places::place_of))]
+    #[tactic(auto, unfolding(crate::specs::KeyPlaces::place_of))]
     pub fn flag(&self, c: u8, u: u8, a: u8, modulus: u8) -> usize
         requires key { IsWithin self.now.sizes (Key.Flag c u a) }
         requires modulus { modulus < self.now.sizes.moduli }
@@ -144,7 +144,7 @@ impl Layout {
 
     /// The place of `Key::Tip`.
     #[inline]
-    #[tactic(auto, unfolding(crate::specs::Places::place_of))]
+    #[tactic(auto, unfolding(crate::specs::KeyPlaces::place_of))]
     pub fn tip(&self, c: u8, u: u8, a: u8, modulus: u8) -> usize
         requires key { IsWithin self.now.sizes (Key.Tip c u a) }
         requires modulus { modulus < self.now.sizes.moduli }
@@ -156,7 +156,7 @@ impl Layout {
 
     /// The place of `Key::Tangent`.
     #[inline]
-    #[tactic(auto, unfolding(crate::specs::Places::place_of))]
+    #[tactic(auto, unfolding(crate::specs::KeyPlaces::place_of))]
     pub fn tangent(&self, c: u8, modulus: u8) -> usize
         requires key { IsWithin self.now.sizes (Key.Tangent c) }
         requires modulus { modulus < self.now.sizes.moduli }
@@ -167,7 +167,7 @@ impl Layout {
 
     /// The place of `Key::Pair`.
     #[inline]
-    #[tactic(auto, unfolding(crate::specs::Places::place_of))]
+    #[tactic(auto, unfolding(crate::specs::KeyPlaces::place_of))]
     pub fn pair(&self, c: u8, c1: u8, a1: u8, c2: u8, a2: u8, modulus: u8) -> usize
         requires key { IsWithin self.now.sizes (Key.Pair c c1 a1 c2 a2) }
         requires modulus { modulus < self.now.sizes.moduli }
@@ -180,7 +180,7 @@ impl Layout {
 
     /// The place of `Key::ClassEdge`.
     #[inline]
-    #[tactic(auto, unfolding(crate::specs::Places::place_of))]
+    #[tactic(auto, unfolding(crate::specs::KeyPlaces::place_of))]
     pub fn class_edge(&self, class: u16, i: u8, j: u8, a: u8, modulus: u8) -> usize
         requires key { IsWithin self.now.sizes (Key.ClassEdge class i j a) }
         requires modulus { modulus < self.now.sizes.moduli }
@@ -193,7 +193,7 @@ impl Layout {
 
     /// The place of `Key::ClassVertex`.
     #[inline]
-    #[tactic(auto, unfolding(crate::specs::Places::place_of))]
+    #[tactic(auto, unfolding(crate::specs::KeyPlaces::place_of))]
     pub fn class_vertex(&self, class: u16, c: u8, s: u8, modulus: u8) -> usize
         requires key { IsWithin self.now.sizes (Key.ClassVertex class c s) }
         requires modulus { modulus < self.now.sizes.moduli }

@@ -65,8 +65,8 @@ impl FactorTable {
         self.at_place(seat, place, Key::Edge { i, j, a }, modulus)
     }
 
-    /// The factor of the flag of an edge of degree `a` at a vertex of colour `c`, whose other end has the colour `u`, as
-    /// `factor` gives it.
+    /// The factor of the flag of an edge of degree `a` at a vertex of colour `c`, whose other end has the colour `u`,
+    /// as `factor` gives it.
     ///
     /// # Errors
     /// `NoUnit` exactly if the bottom of the factor's fraction and the modulus have a common divisor above 1.
@@ -93,8 +93,8 @@ impl FactorTable {
         self.at_place(seat, place, Key::Flag { c, u, a }, modulus)
     }
 
-    /// The factor of the vertex of colour `c` with one mark, under a psi class to the power 1, and one edge of degree `a`
-    /// to a vertex of colour `u`, as `factor` gives it.
+    /// The factor of the vertex of colour `c` with one mark, under a psi class to the power 1, and one edge of degree
+    /// `a` to a vertex of colour `u`, as `factor` gives it.
     ///
     /// # Errors
     /// `NoUnit` exactly if the degree and the modulus have a common divisor above 1.
@@ -121,8 +121,8 @@ impl FactorTable {
         self.at_place(seat, place, Key::Tip { c, u, a }, modulus)
     }
 
-    /// The factor of the vertex of colour `c` without marks and with two edges, of the degrees `a1` and `a2` to vertices
-    /// of the colours `c1` and `c2`, as `factor` gives it.
+    /// The factor of the vertex of colour `c` without marks and with two edges, of the degrees `a1` and `a2` to
+    /// vertices of the colours `c1` and `c2`, as `factor` gives it.
     ///
     /// # Errors
     /// `NoUnit` exactly if the bottom of the factor's fraction and the modulus have a common divisor above 1.
@@ -207,8 +207,8 @@ impl FactorTable {
         self.at_place(seat, place, Key::ClassVertex { class, c, s }, modulus)
     }
 
-    /// The residue of the product of the differences of the weight of `c` to those of the other colours, which it always
-    /// has.
+    /// The residue of the product of the differences of the weight of `c` to those of the other colours, which it
+    /// always has.
     #[inline]
     pub fn tangent(&self, seat: &mut FactorSeat, c: u8, modulus: u8) -> u64
         requires seat { IsSeatOf seat.old self.now }

@@ -2,7 +2,7 @@
 
 ghost use Rattle.std.specs.Prelude.{◌≡◌, ℕ, ◌+◌, ◌-◌, ◌<◌, ◌≤◌, ◌++◌, [], length, All, IfOk, OnOk, replicate, map};
 ghost use Rattle.arithmetic.specs.Numbers.{reduce};
-ghost use Rattle.factor_table.specs.Places.{AreWithinLimits, first_factor, words_of};
+ghost use Rattle.factor_table.specs.KeyPlaces.{AreWithinLimits, first_factor, words_of};
 ghost use Rattle.factor_table.specs.Factors.{parameters, sizes_of};
 ghost use Rattle.factor_table.specs.Rule.{first_words, opening_view};
 ghost use Rattle.factor_table.specs.Seats.{parameters_of, word_count, IsSeatOf, known_of, moves_of};
@@ -18,8 +18,8 @@ impl FactorTable {
     /// A table in which no word is filled, and so many seats of it. All of its memory is taken here.
     ///
     /// The degree is from 1 to 10, there are 1 to 8 moduli and at most 512 classes, and 1 to 64 seats. The table has
-    /// fewer than 9,300,000 words of 8 bytes, and as many as these sizes ask for. It keeps copies of what it is given. While
-    /// it is made, its words are in memory twice.
+    /// fewer than 9,300,000 words of 8 bytes, and as many as these sizes ask for. It keeps copies of what it is given.
+    /// While it is made, its words are in memory twice.
     ///
     /// # Errors
     /// `NoMemory` if there is no memory for the table or the seats.

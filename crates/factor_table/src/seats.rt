@@ -3,7 +3,7 @@
 ghost use Rattle.std.specs.Prelude.{◌≡◌, ℕ, ◌<◌, ◌≤◌, ◌++◌, [], ◌∷◌, length};
 ghost use Rattle.factor_table.specs.declared.key.Key.{Key};
 ghost use Rattle.factor_table.specs.declared.table.Move.{Move};
-ghost use Rattle.factor_table.specs.Places.{IsWithin, first_factor};
+ghost use Rattle.factor_table.specs.KeyPlaces.{IsWithin, first_factor};
 ghost use Rattle.factor_table.specs.Factors.{sizes_of};
 ghost use Rattle.factor_table.specs.Seats.{parameters_of, word_count, place_in, IsSeatOf, known_of, moves_of};
 

@@ -1,7 +1,7 @@
 //! The table, its seats and its rule.
 
 ghost use Rattle.std.specs.Prelude.{◌≡◌, ℕ, ◌<◌, ◌^◌, length, slice_index};
-ghost use Rattle.factor_table.specs.Places.{words_of};
+ghost use Rattle.factor_table.specs.KeyPlaces.{words_of};
 ghost use Rattle.factor_table.specs.Factors.{sizes_of};
 
 use crate::layout::Layout;
@@ -10,7 +10,7 @@ use atomic_table::{Join, Play, Seat, Split, Table, TableRule};
 use std::alloc::Global;
 use std::collections::LinkedList;
 
-// A step of a seat. No value of it is made.
+/// A step of a seat, as contracts see it. The code never makes a value of this type.
 pub enum Move {
     Load { place: usize, found: u64 },
     Fill { place: usize },
@@ -18,7 +18,8 @@ pub enum Move {
     Join,
 }
 
-// What a seat of the table knows, and the steps that it made. No value of it is made.
+/// What a seat of the table knows, and the steps that it made, as contracts see it. The code never makes a value of
+/// this type.
 pub struct View {
     pub parameters: Parameters,
     pub known: LinkedList<usize>,
@@ -26,6 +27,7 @@ pub struct View {
     pub joined_away: bool,
 }
 
+/// The rule of the words of the table.
 pub struct FactorRule;
 
 impl TableRule<(), View, Parameters> for FactorRule {

@@ -369,8 +369,8 @@ fn two_threads_fill_and_read_one_table(rt: HostRuntime) -> Result<(), Fail> {
         &classes,
     )?;
     let keys = keys_of(alloc, opened.table.parameters())?;
-    // 5 tangents, 80 edges, flags and tips each, 5 * 16 * 16 pairs, and the edges and vertices of 3 classes. Each vertex
-    // comes once for each of the 5 colours.
+    // 5 tangents, 80 edges, flags and tips each, 5 * 16 * 16 pairs, and the edges and vertices of 3 classes. Each
+    // vertex comes once for each of the 5 colours.
     assert_eq!(rt; keys.len(), 5 + 3 * 80 + 1280 + 3 * 80 + 3 * 100);
     let agreement = compare_in_threads(&rt, &mut opened, keys.as_slice());
     let all = Agreement {

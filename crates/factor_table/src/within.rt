@@ -1,7 +1,7 @@
 //! Tests of whether a key is one of a table of given parameters.
 
 ghost use Rattle.std.specs.Prelude.{◌↔◌, ◌<◌, length, IsTrue};
-ghost use Rattle.factor_table.specs.Places.{IsEnd};
+ghost use Rattle.factor_table.specs.KeyPlaces.{IsEnd};
 ghost use Rattle.factor_table.specs.Factors.{sizes_of, HasParts, class_at, IsKeyOf};
 
 use crate::key::Key;

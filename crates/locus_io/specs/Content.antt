@@ -1,4 +1,4 @@
--- What an object of the outside holds, where it tells.
+-- What an object of the outside holds, if contracts can see it (`Some`).
 use Rattle.std.specs.Prelude.{◌≡◌, ℕ, List, [], ◌∷◌, ◌++◌, Option, Some, None, option_map, String, Vec, string_bytes}
 use Rattle.std.specs.declared.alloc.Global.{Global}
 use Rattle.std.specs.Str.{bytes_eq}
@@ -17,16 +17,16 @@ abbrev pub told_files : List (String Global × Vec ℕ Global) → NamedFiles
 told_files [] = []
 told_files (f ∷ fs) = (string_bytes f.0, f.1.items) ∷ told_files fs
 
--- where the bytes are told, they grow by this piece
+-- if the bytes are seen, they grow by this piece
 abbrev pub Appends : Option (List ℕ) → Option (List ℕ) → List ℕ → Type 0
 Appends old new piece = new ≡ option_map (λ b. b ++ piece) old
 
--- where the bytes are told, they grow by the front of this text that stands before the rest
+-- if the bytes are seen, they grow by the prefix of this text that stands before the rest
 pub record AppendsBefore (old new : Option (List ℕ)) (text rest : List ℕ) : Type 0 where
   pub front : List ℕ
   pub whole : front ++ rest ≡ text
   pub appends : Appends old new front
 
--- where the bytes are told, they grow by a front of this text
+-- if the bytes are seen, they grow by a prefix of this text
 abbrev pub AppendsFront : Option (List ℕ) → Option (List ℕ) → List ℕ → Type 0
 AppendsFront old new text = (rest : List ℕ) × AppendsBefore old new text rest

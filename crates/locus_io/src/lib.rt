@@ -1,8 +1,9 @@
 //! The outside as traits that count their faults, with objects in memory and of the host.
 //!
 //! A program that reads files through [`Files`] and writes through [`Sink`] can state in its contracts why a call
-//! failed: a count of faults rose. A [`Stopper`] counts the stops that were asked for in the same way. Objects in memory tell what they hold, so over them the bytes that were read and
-//! written are known too; objects of the host tell nothing.
+//! failed: a count of faults rose. A [`Stopper`] counts the stops that were asked for in the same way. Contracts see
+//! the contents of objects in memory, so with them the bytes that were read and written are known too; of objects of
+//! the host they see none.
 #![tactic(auto)]
 
 mod gate;

@@ -1,4 +1,4 @@
-//! Objects of the outside in memory, which tell what they hold and fail where a test wants it.
+//! Objects of the outside in memory, whose contents contracts see, and which fail at the calls that a test chooses.
 
 ghost use Rattle.std.specs.Prelude.{◌≡◌, ◌≢◌, ◌≤◌, ◌<◌, ◌↔◌, ◌⊎◌, ◌++◌, [], Some, None, true, false, Contains, IfOk, IsTrue, IsErr, OnOk, OnErr, length, take, vec_len, option_map, string_bytes};
 ghost use Rattle.locus_io.specs.Content.{told_files, file_of};
@@ -155,8 +155,10 @@ impl Model for MemorySink {
 
 impl MemorySink {
     /// An empty sink that takes `room` bytes in all and at most `most` in a call. The calls of `write` and `flush`
-    /// whose numbers, from 0 over both, stand in `failing` are to fail, and so is each write that finds the room used
-    /// up.
+    /// whose numbers, from 0 over both, are in `failing` are to fail, and so is each write that finds the room used up.
+    ///
+    /// # Errors
+    /// `NoMemory` if the allocator refuses memory for `room` bytes or for the copy of `failing`.
     pub fn new(
         alloc: Global,
         room: usize,

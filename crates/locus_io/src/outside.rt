@@ -24,7 +24,7 @@ pub enum LoadError {
 ///
 /// A count of faults never falls, and stays at its last value, 2^64 - 1.
 pub trait Files {
-    // The files, where the object tells them.
+    // The files, if contracts can see them.
     ghost content: { Self → Option NamedFiles };
 
     // How many loads failed so far.
@@ -33,7 +33,7 @@ pub trait Files {
     // The name whose load failed last.
     ghost last_fault: { Self → Option (List ℕ) };
 
-    /// The first `most` bytes of the file `name`, or all of it where it is shorter. A name that is not there is a
+    /// The first `most` bytes of the file `name`, or all of it if it is shorter. A name that is not there is a
     /// fault.
     fn load(&mut self, alloc: Global, name: &str, most: u64) -> Result<Vec<u8>, LoadError>
         ensures content { content self.new ≡ content self.old }
@@ -50,7 +50,7 @@ pub trait Files {
 ///
 /// A count of faults never falls, and stays at its last value, 2^64 - 1. No call takes memory.
 pub trait Sink {
-    // The bytes that were written so far, where the object tells them.
+    // The bytes that were written so far, if contracts can see them.
     ghost written: { Self → Option (List ℕ) };
 
     // Whether nothing that was written is held back.
@@ -59,8 +59,8 @@ pub trait Sink {
     // How many calls failed so far.
     ghost faults: { Self → ℕ };
 
-    /// Writes a front of `piece`, which is not empty, and says how many bytes it has, at least one. After a failed
-    /// call nothing of the piece was written. A device that takes nothing is a fault.
+    /// Writes a prefix of `piece`, which is not empty, and returns its length in bytes, at least one. If the call
+    /// fails, nothing of the piece was written. A device that takes nothing is a fault.
     fn write(&mut self, piece: &[u8]) -> Result<usize, Failed>
         requires { 0 < length piece.now }
         ensures bound { IfOk result (λ count. (0 < count) × (count ≤ length piece.now)) }
@@ -89,7 +89,7 @@ pub trait Stopper {
     /// Whether a stop is asked for now, under this name.
     ///
     /// # Errors
-    /// `NoMemory` where the allocator refused memory.
+    /// `NoMemory` if the allocator refused memory.
     fn ask(&mut self, alloc: Global, name: &str) -> Result<bool, NoMemory>
         ensures stop { result ≡ Ok true →
             RoseBy (stops self.old) (stops self.new) name.now (last_stop self.new) }

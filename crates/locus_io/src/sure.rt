@@ -1,4 +1,4 @@
-//! Objects that never fail and tell nothing of their content.
+//! Objects that never fail and whose contents contracts do not see.
 
 ghost use Rattle.std.specs.Prelude.{◌≡◌, ◌≤◌, ◌<◌, None, true, IfOk, IsOk, IsOkUnless, length, take, vec_len};
 

@@ -1,22 +1,22 @@
-//! The words of the command line, as the host gives them.
+//! The arguments of the command line, as the host gives them.
 
 use std::io::ErrorKind;
 use std::rt::Env;
 use std::{env, io};
 
-/// Why the words of the command line were not read.
+/// Why the arguments of the command line were not read.
 #[derive(Clone, Copy, Debug, PartialEq, Eq, Drop)]
 pub enum WordsError {
-    /// A word is no UTF-8.
+    /// An argument is not valid UTF-8.
     NotText,
     /// The allocator refused memory.
     NoMemory,
 }
 
-/// The words of the command line, of which the first is the program's name.
+/// The arguments of the command line, of which the first is the program's name.
 ///
 /// # Errors
-/// A word that is no UTF-8, or want of memory.
+/// `NotText` if an argument is not valid UTF-8; `NoMemory` if the allocator refused memory.
 pub fn host_words<R: Env + AllocGlobal>(runtime: &R) -> Result<Vec<String>, WordsError> {
     collected(runtime).map_err(|error| match error.kind() {
         ErrorKind::OutOfMemory => WordsError::NoMemory,

@@ -12,7 +12,7 @@ use Rattle.problem_toml.specs.declared.error.ProblemError.{ProblemError}
 use Rattle.problem_toml.specs.declared.name.Name.{Name}
 use Rattle.problem_toml.specs.declared.place.Place.{Place}
 
--- what was read, after a front
+-- what was read, after a prefix
 abbrev pub with_front : {A : Type 0} → List A → Result (List A) ProblemError → Result (List A) ProblemError
 with_front front read = read >>= (λ xs. Ok (front ++ xs))
 
@@ -36,7 +36,7 @@ pub tables_seen : (vs : List Value) → all_tables (items_view vs) ≡ list_all 
 tables_seen [] = refl
 tables_seen (v ∷ vs) = ap (λ b. is_some (as_table (view v)) && b) (tables_seen vs)
 
--- where all values are tables, there are as many tables as values
+-- if all values are tables, there are as many tables as values
 pub tables_counted : (vs : List Value) → list_all (λ v. is_some (as_table (view v))) vs ≡ true → length (tables_among (items_view vs)) ≡ length vs
 tables_counted [] are = refl
 tables_counted (v ∷ vs) are = by_table (as_table (view v)) (list_all (λ v. is_some (as_table (view v))) vs) are (tables_counted vs)
@@ -46,7 +46,7 @@ tables_counted (v ∷ vs) are = by_table (as_table (view v)) (list_all (λ v. is
     by_table None b are rest = cc
     by_table (Some doc) b are rest = omega (arith, rest are)
 
--- the tables among the values from place i on, where the value there is a table, and where it is none
+-- the tables among the values from index i on, if the value there is a table, and if it is none
 pub tables_here : (vs : List Value) (i : ℕ) (v : Value) (doc : Members) → i < length vs → Some doc ≡ as_table (view (get_or vs i v))
     → tables_among (items_view (drop i vs)) ≡ doc ∷ tables_among (items_view (drop (i + 1) vs))
 tables_here vs i v doc inside is = rw (items_view-drop vs i v inside, ← is)

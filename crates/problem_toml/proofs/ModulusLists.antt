@@ -50,7 +50,7 @@ product_too_large p m whole ms i d are inside is so_far large =
     more a zero some = elim some [ ]
     more a (suc b) some = grind (arith)
 
--- no two have a common divisor above 1 where none is found
+-- no two have a common divisor above 1 if no such pair is found
 coprime_each : (i m j : ℕ) (ns : List ℕ) → coprime_to i m j ns ≡ Ok tt → (k : ℕ) → k < length ns → gcd m (slice_index ns k) ≡ 1
 coprime_each i m j [] none k inside = absurd (omega arith)
 coprime_each i m j (n ∷ ns) none k inside = by_test (nat_eq (gcd m n) 1) refl none (coprime_each i m (j + 1) ns) k inside

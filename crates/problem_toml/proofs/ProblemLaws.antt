@@ -28,7 +28,7 @@ none_found p (w ∷ ws) i none = by_test p w ws i (p w) refl none (none_found p 
     by_test p w ws i true e none rest = cc
     by_test p w ws i false e none rest = rest none
 
--- weights within their limit have no first place beyond it
+-- weights within their limit have no first index beyond it
 pub no_place : (ws : List ℤ) → list_any is_beyond_limit ws ≡ false → position is_beyond_limit ws ≡ None
 no_place ws none = position_from-zero is_beyond_limit ws ∙ none_found is_beyond_limit ws 0 none
 
@@ -43,7 +43,7 @@ no_cause BadCount r ws rank is counted least most none count weight = few_or_man
     few_or_many n rank is least most h = omega arith
 no_cause (BadWeight place) r ws rank is counted least most none count weight = let there = (weight place).0 is in let h = no_place ws none in cc (there.2)
 
--- where no term is refused for its degree, each has the dimension
+-- if no term is refused for its degree, each has the dimension
 degrees_each : (s : TreeShape) (i : ℕ) (ts : List Term) → degrees_fit s i ts ≡ Ok tt → All (HasDimension s) ts
 degrees_each s i [] fit = All-nil (HasDimension s)
 degrees_each s i (t ∷ ts) fit = by_test (nat_eq (powers_degree s.degree t.classes) (dimension_of s)) refl fit (degrees_each s (i + 1) ts)

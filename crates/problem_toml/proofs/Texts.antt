@@ -4,7 +4,7 @@ use Rattle.std.proofs.Math.Nat.{min_comm}
 use Rattle.std.proofs.lemmas.List.{take_min}
 use Rattle.problem_toml.specs.Refusals.{shown_byte, shown_key}
 
--- a front, and what comes after it
+-- a prefix, and what comes after it
 pub joined_two : (old first last a b : List ℕ) → first ≡ old ++ a → last ≡ first ++ b → last ≡ old ++ (a ++ b)
 joined_two old first last a b p q = q ∙ ap (λ x. x ++ b) p ∙ append_assoc old a b
 
@@ -15,6 +15,6 @@ joined_four old first second third last a b c d p q r s =
     let three = joined_two old second third (a ++ b) c two r in
     joined_two old third last (a ++ b ++ c) d three s
 
--- the front of a key
+-- the prefix of a key that is shown
 pub front_shown : (key front : List ℕ) (n : ℕ) → n ≡ min (length key) 40 → front ≡ take n key → map shown_byte front ≡ shown_key key
 front_shown key front n is cut = ap (map shown_byte) (cut ∙ ap (λ k. take k key) (is ∙ min_comm (length key) 40) ∙ take_min 40 key)

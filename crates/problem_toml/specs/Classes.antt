@@ -40,7 +40,7 @@ abbrev pub parameter_at : Place → Option Name → Members → Result ℤ Probl
 parameter_at place None doc = Ok (pos 0)
 parameter_at place (Some name) doc = integer_at place name doc
 
--- class j of term i, to its power, which is 1 where it is left out
+-- class j of term i, to its power, which is 1 if it is left out
 unfoldable pub power_of : Version → ℕ → ℕ → ℕ → Members → Result Power ProblemError
 power_of version marks i j doc = do
   kind ← kind_at version i j doc
@@ -52,7 +52,7 @@ power_of version marks i j doc = do
   power ← within (Class i j) key.Power 1 64 power
   Ok (record { class = class; power = power })
 
--- the classes of term i from place j on
+-- the classes of term i from index j on
 abbrev pub powers_from : Version → ℕ → ℕ → ℕ → List Members → Result (List Power) ProblemError
 powers_from version marks i j [] = Ok []
 powers_from version marks i j (doc ∷ docs) = do

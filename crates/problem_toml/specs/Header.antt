@@ -50,7 +50,7 @@ pub record IsHeader (h : Header) : Type 0 where
   pub least_bottom_bound : 1 ≤ h.bottom_bound
   pub most_bottom_bound : h.bottom_bound < 2 ^ 62
 
--- the number of marks, 0 where it is left out
+-- the number of marks, 0 if it is left out
 unfoldable pub marks_at : Members → Result ℤ ProblemError
 marks_at doc = integer_or Top Marks (pos 0) (get_member (key_of Marks) doc)
 

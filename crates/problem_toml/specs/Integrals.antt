@@ -25,7 +25,7 @@ integral_of marks i before doc = do
   _ ← count_within (place.Integral i) key.Term 1 (32 - before) (length terms)
   terms_from Two marks before terms
 
--- the integrals from place i on
+-- the integrals from index i on
 abbrev pub integrals_from : ℕ → ℕ → ℕ → List Members → Result (List (List Term)) ProblemError
 integrals_from marks i before [] = Ok []
 integrals_from marks i before (doc ∷ docs) = do

@@ -32,7 +32,7 @@ kinds_of Two = Mark ∷ Hypersurface ∷ Incidence ∷ R1 ∷ Contact ∷ Psi �
 abbrev pub kind_of : Version → List ℕ → Option Kind
 kind_of version text = find (λ kind. bytes_eq text (word_of kind)) (kinds_of version)
 
--- the key of the parameter of a kind, where it has one
+-- the key of the parameter of a kind, if it has one
 abbrev pub parameter_key : Kind → Option Name
 parameter_key Mark = Some key.Mark
 parameter_key Hypersurface = Some key.B

@@ -17,7 +17,7 @@ weights_of rank weights = do
   _ ← keep (nat_eq (length weights) (rank + 1)) (WeightCount (shown_count (length weights)) (rank + 1))
   Ok weights
 
--- the modulus at a place: not below 0, odd, not 1 and below 2^62
+-- the modulus at an index: not below 0, odd, not 1 and below 2^62
 unfoldable pub modulus_of : ℕ → ℤ → Result ℕ ProblemError
 modulus_of i z = do
   _ ← keep (not (int_lt z (pos 0))) (ModulusRefused i TooSmall)
@@ -26,7 +26,7 @@ modulus_of i z = do
   _ ← keep (nat_lt (unsigned_abs z) (2 ^ 62)) (ModulusRefused i TooLarge)
   Ok (unsigned_abs z)
 
--- the moduli from place i on
+-- the moduli from index i on
 abbrev pub moduli_from : ℕ → List ℤ → Result (List ℕ) ProblemError
 moduli_from i [] = Ok []
 moduli_from i (z ∷ zs) = do
@@ -34,14 +34,15 @@ moduli_from i (z ∷ zs) = do
   ms ← moduli_from (i + 1) zs
   Ok (m ∷ ms)
 
--- no modulus from place j on has a common divisor above 1 with the modulus m of place i
+-- no modulus from index j on has a common divisor above 1 with m, the modulus at index i
 abbrev pub coprime_to : ℕ → ℕ → ℕ → List ℕ → Result (Unit {0}) ProblemError
 coprime_to i m j [] = Ok tt
 coprime_to i m j (n ∷ ns) = do
   _ ← keep (nat_eq (gcd m n) 1) (NotCoprime i j)
   coprime_to i m (j + 1) ns
 
--- no two of the moduli from place i on have a common divisor above 1; the pairs are taken by their first place, then by their second
+-- no two of the moduli from index i on have a common divisor above 1; the pairs are ordered by their first index, and
+-- then by their second
 abbrev pub coprime_from : ℕ → List ℕ → Result (Unit {0}) ProblemError
 coprime_from i [] = Ok tt
 coprime_from i (m ∷ ms) = do

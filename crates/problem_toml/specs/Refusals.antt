@@ -28,7 +28,7 @@ number_of (UnknownKind term class) = Some 13
 number_of (WrongDegree term degree dimension) = Some 14
 number_of TooManyTrees = Some 15
 
--- where a table stands; places are counted from 0
+-- where a table is in the text; integrals, terms and classes are counted from 0
 abbrev pub place_text : Place → List ℕ
 place_text Top = codes "top"
 place_text (Integral i) = codes "integral " ++ decimal i

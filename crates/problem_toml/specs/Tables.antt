@@ -1,4 +1,5 @@
--- What is looked up in a TOML table, and what is refused there. Each refusal says where the table stands, and at which key.
+-- What is looked up in a TOML table, and what is refused there. Each refusal says where the table stands, and at which
+-- key.
 use Rattle.std.specs.Prelude.{ℕ, ℤ, pos, List, [], ◌∷◌, Bool, true, ◌&&◌, ◌||◌, Option, Some, None, Result, Ok, Err, int_lt, nat_le, unsigned_abs, if◌then◌else◌, is_some}
 use Rattle.std.specs.Option.{ok_or}
 use Rattle.std.specs.List.{list_any}
@@ -38,7 +39,7 @@ none_unknown place (Some key) = Err (UnknownKey place key)
 abbrev pub all_known : Place → List Name → Members → Result (Unit {0}) ProblemError
 all_known place names doc = none_unknown place (first_unknown names doc)
 
--- the value where it is an integer, a text, an array of integers or an array of tables
+-- the value, if it is an integer, a text, an array of integers or an array of tables
 abbrev pub integer_of : Place → Name → Data → Result ℤ ProblemError
 integer_of place name (integer z) = Ok z
 integer_of place name _ = Err (WrongType place name)
@@ -75,7 +76,7 @@ abbrev pub tables_of : Place → Name → Data → Result (List Members) Problem
 tables_of place name (array ds) = if all_tables ds then Ok (tables_among ds) else Err (WrongType place name)
 tables_of place name _ = Err (WrongType place name)
 
--- the integer where it is not left out
+-- the integer, if it is not left out
 abbrev pub integer_or : Place → Name → ℤ → Option Data → Result ℤ ProblemError
 integer_or place name otherwise None = Ok otherwise
 integer_or place name otherwise (Some d) = integer_of place name d

@@ -21,7 +21,7 @@ term_keys = key.Coefficient ∷ key.Classes ∷ []
 abbrev pub is_coefficient : ℤ → Bool
 is_coefficient z = nat_le (unsigned_abs z) 1000000000
 
--- term i, with the coefficient 1 where it is left out, and with 0 to 16 classes
+-- term i, with the coefficient 1 if it is left out, and with 0 to 16 classes
 unfoldable pub term_of : Version → ℕ → ℕ → Members → Result Term ProblemError
 term_of version marks i doc = do
   _ ← present (place.Term i) key.Classes doc

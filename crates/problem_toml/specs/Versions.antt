@@ -1,4 +1,5 @@
--- The versions of the format. Version 1 has terms at the top; version 2 has integrals there, each with terms of its own.
+-- The versions of the format. Version 1 has terms at the top; version 2 has integrals there, each with terms of its
+-- own.
 use Rattle.std.specs.Prelude.{ℕ, pos, ℤ, List, [], ◌∷◌, Result, Ok, Err, if◌then◌else◌}
 use Rattle.std.specs.Ordering.{int_eq}
 use Rattle.toml.specs.Data.{Members}

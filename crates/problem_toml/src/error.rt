@@ -45,13 +45,13 @@ pub enum ProblemError {
         found: u32,
         wanted: u32,
     },
-    /// The number at a place is no modulus; one below 0 is too small.
+    /// The number at an index of the list is no modulus; one below 0 is too small.
     ModulusRefused {
         index: u32,
         why: ModulusError,
     },
-    /// The moduli of two places have a common divisor above 1: the least pair of places, by the first and then by the
-    /// second.
+    /// Two moduli have a common divisor above 1: the least pair of indices of such moduli, by the first index and then
+    /// by the second.
     NotCoprime {
         first: u32,
         second: u32,

@@ -28,7 +28,7 @@ const BOTTOM_BOUND: u64 = 1_000;
 /// 90) for the number N, and all else is the same for each number.
 ///
 /// # Errors
-/// Want of memory.
+/// `NoMemory` if the allocator refuses memory.
 pub fn generated(alloc: Global, number: u32) -> Result<Problem, NoMemory>
     ensures { IfOk result (λ problem. problem_view problem ≡ generated_problem number) }
 {

@@ -124,7 +124,7 @@ fn bounds(written: &Written) -> Result<(u64, u64), ProblemError>
     Ok((top, bottom))
 }
 
-/// The numbers within their limits, where so many terms or integrals are listed.
+/// The numbers of the header, each within its limits. `count` is how many terms or integrals the text lists.
 #[tactic(auto, unfolding(crate::specs::Header::header_of))]
 pub fn read_header(
     version: Version,

@@ -22,7 +22,7 @@ const INTEGRAL_KEYS: [Name; 1] = [Name::Term];
 
 const MOST_TERMS: u32 = 32;
 
-// The integral of a place, where those before it have so many terms.
+// The integral with the index `integral`. Those before it have `before` terms together.
 #[tactic(auto, unfolding(crate::specs::Integrals::integral_of))]
 fn integral(
     alloc: Global,

@@ -45,7 +45,7 @@ pub fn kind_of(version: Version, text: &str) -> Option<Kind>
 }
 
 impl Kind {
-    /// The key of the parameter, where the kind has one.
+    /// The key of the parameter, if the kind has one.
     pub fn parameter_key(self) -> Option<Name>
         ensures { result ≡ parameter_key self }
     {

@@ -1,5 +1,5 @@
-//! Problems as texts in TOML: reading them, the line that says why a text is refused, writing them, and the problem that a
-//! number generates.
+//! Problems as texts in TOML: reading them, the line that says why a text is refused, writing them, and the problem
+//! that a number generates.
 #![tactic(auto)]
 
 mod classes;

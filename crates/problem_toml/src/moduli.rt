@@ -71,7 +71,7 @@ fn each_modulus(alloc: Global, numbers: &[i64]) -> Result<Vec<Modulus>, ProblemE
     Ok(moduli)
 }
 
-// The modulus of place `first` has to be coprime to each after it.
+// The modulus with the index `first` has to be coprime to each one after it.
 #[tactic(auto, using(std::proofs::lemmas::List::drop_more))]
 fn check_coprime_to(moduli: &[Modulus], first: usize) -> Result<(), ProblemError>
     requires inside { first < length moduli.now }
@@ -101,7 +101,7 @@ fn check_coprime(moduli: &[Modulus]) -> Result<(), ProblemError>
     Ok(())
 }
 
-// The product, where 128 bits hold it.
+// The product, if it fits in 128 bits.
 fn product(moduli: &[Modulus]) -> Option<u128>
     requires { All IsModulus moduli.now }
     ensures value { IfSome result (λ product. product ≡ product_of moduli.now) }

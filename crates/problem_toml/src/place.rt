@@ -1,6 +1,7 @@
 //! Where a table stands in a problem text.
 
-/// Where a table stands. Integrals, terms and the classes of a term are counted from 0, the terms through all integrals.
+/// Where a table stands. Integrals, terms and the classes of a term are counted from 0, the terms through all
+/// integrals.
 #[derive(Clone, Copy, Debug, PartialEq, Eq, Drop)]
 pub enum Place {
     /// At the top.

@@ -18,7 +18,7 @@ fn append_number(line: &mut Vec<u8>, number: u64) -> Result<(), NoMemory>
     Ok(())
 }
 
-// A front, a number, a space and a number.
+// Appends a prefix, a number, a space and a number.
 #[tactic(auto, using(std::proofs::Common::append_assoc))]
 fn append_two(line: &mut Vec<u8>, front: &[u8], first: u64, second: u64) -> Result<(), NoMemory>
     ensures { OnOk result (line.new.items ≡ line.old.items ++ (front.now ++ decimal first ++ codes " " ++ decimal second)) }
@@ -48,7 +48,7 @@ fn append_place(line: &mut Vec<u8>, place: Place) -> Result<(), NoMemory>
     Ok(())
 }
 
-// A front, a place, a space and a key.
+// Appends a prefix, a place of the text, a space and a key.
 #[tactic(auto, using(std::proofs::Common::append_assoc))]
 fn append_named(line: &mut Vec<u8>, front: &[u8], place: Place, name: Name) -> Result<(), NoMemory>
     ensures { OnOk result (line.new.items ≡ line.old.items ++ (front.now ++ place_text place ++ codes " " ++ key_of name)) }
@@ -149,7 +149,8 @@ fn append_bytes(line: &mut Vec<u8>, bytes: &[u8]) -> Result<(), NoMemory>
 /// Indices are counted from 0. Of an unknown key the first 40 bytes are shown, and each byte outside 32 to 126 as `?`.
 ///
 /// # Errors
-/// Want of memory. Then the line is as before: the whole text is made before a byte of it is appended.
+/// `NoMemory` if the allocator refuses memory. Then the line is as before: the whole text is made before a byte of it is
+/// appended.
 pub fn append_refusal(
     alloc: Global,
     line: &mut Vec<u8>,
@@ -164,7 +165,7 @@ pub fn append_refusal(
     Ok(())
 }
 
-/// Appends what [`append_refusal`] does. After want of memory a prefix of it may stand there.
+/// Appends what [`append_refusal`] does. If memory is refused, a prefix of it may have been appended.
 fn append_details(line: &mut Vec<u8>, error: &ProblemError) -> Result<(), NoMemory>
     ensures { OnOk result (line.new.items ≡ line.old.items ++ refusal_of error.now) }
 {
@@ -205,6 +206,9 @@ fn append_details(line: &mut Vec<u8>, error: &ProblemError) -> Result<(), NoMemo
 }
 
 /// The line `problem refused` with the number of the refusal, its name and its details, without a line feed.
+///
+/// # Errors
+/// `NoMemory` if the allocator refuses memory.
 pub fn refusal_line(alloc: Global, error: &ProblemError) -> Result<Vec<u8>, NoMemory>
     ensures { IfOk result (λ line. line.items ≡ codes "problem refused " ++ refusal_of error.now) }
 {

@@ -33,7 +33,7 @@ pub fn value_at(table: &Table, place: Place, name: Name) -> Result<&Value, Probl
     }
 }
 
-/// The value where it is an integer.
+/// The value as an integer; refused if it is of another type.
 pub fn as_integer(value: &Value, place: Place, name: Name) -> Result<i64, ProblemError>
     ensures { GivesSurely (λ z. z) result (integer_of place name (view value.now)) }
 {
@@ -43,7 +43,7 @@ pub fn as_integer(value: &Value, place: Place, name: Name) -> Result<i64, Proble
     }
 }
 
-/// The value where it is a text.
+/// The value as a text; refused if it is of another type.
 pub fn as_text(value: &Value, place: Place, name: Name) -> Result<&str, ProblemError>
     ensures { GivesSurely (λ text. text.now) result (text_of place name (view value.now)) }
 {
@@ -61,7 +61,7 @@ pub fn integer(table: &Table, place: Place, name: Name) -> Result<i64, ProblemEr
     as_integer(value_at(table, place, name)?, place, name)
 }
 
-/// The integer, or another where it is left out.
+/// The integer, or `otherwise` if it is left out.
 pub fn integer_or(
     value: Option<&Value>,
     place: Place,

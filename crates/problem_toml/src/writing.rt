@@ -260,10 +260,10 @@ fn table(alloc: Global, problem: &Problem) -> Result<Table, NoMemory>
     Ok(table)
 }
 
-/// A text of version 2 that reads as the problem, where [`crate::read`] takes a text of its length.
+/// A text of version 2 that [`crate::read`] reads as the problem, if it is not too long for it.
 ///
 /// # Errors
-/// Want of memory.
+/// [`NoMemory`] if the allocator refuses memory.
 pub fn write(alloc: Global, problem: &Problem) -> Result<Vec<u8>, NoMemory>
     ensures { IfOk result (λ text. reading_of_any_length text.items ≡ Ok (problem_view problem.now)) }
 {

@@ -2,7 +2,7 @@
 use claim_table::Record;
 use std::collections::LinkedList;
 
-/// A word that a thief found at a victim's place. No value of it is made.
+/// A victim's word as a thief found it. The code never makes a value of this type: it stands in contracts alone.
 pub struct Look {
     /// The worker whose word it is.
     pub victim: u32,
@@ -10,7 +10,8 @@ pub struct Look {
     pub word: u64,
 }
 
-/// What a worker did in a round, what it holds and what it has looked at. No value of it is made.
+/// What a worker did in a round, what it holds and what it has looked at. The code never makes a
+/// value of it.
 pub struct RangeRecord {
     /// What a seat means to a claimer.
     pub done: Record,

@@ -1,8 +1,9 @@
-// The rule of the range words, and what each kind of step tells its caller.
+// The rule of the range words, and what the caller of each kind of step knows after it.
 use crate::history::RangeRecord;
 use atomic_table::{Play, TableRule};
 use claim_table::{Plan, View};
 
+// The rule of the range words.
 pub struct RangeRule;
 
 impl TableRule<(), View<RangeRecord>, Plan> for RangeRule {

@@ -18,10 +18,11 @@ use Rattle.problem.specs.declared.problem.Problem.{Problem}
 use Rattle.problem.specs.Problems.{view}
 use Rattle.problem.specs.Sums.{is_bad_of, places_of, ArePartialSums}
 use Rattle.range_sum.specs.Totals.{ratio_at, AddsFraction, AddsResidue, AreRatiosOf}
-use Rattle.range_sum.proofs.Places.{has_unit, unit_unless, nowhere_bad, bad_at_place, is_bad_at, at_most_64, within_64}
+use Rattle.range_sum.proofs.BadTrees.{has_unit, unit_unless, nowhere_bad, bad_at_place, is_bad_at}
+use Rattle.range_sum.proofs.SumIndices.{at_most_64, within_64}
 use Rattle.range_sum.proofs.RangeLaws.{modulus_above}
 
--- ---- the bottom of a partial sum is a unit exactly where the bottoms of its contributions are
+-- ---- the bottom of a partial sum is a unit exactly if the bottoms of its contributions are
 abbrev HasUnitBottom : ℕ → Fraction → Type 0
 HasUnitBottom m f = gcd (nat_abs f.bottom) m ≡ 1
 
@@ -45,9 +46,10 @@ unit_of_all ws s lo (suc n) terms m above h =
     subst (λ hi. HasUnitBottom m (partial_sum ws s lo hi terms)) (let e : lo + n + 1 ≡ lo + suc n = omega arith in e)
     (subst (HasUnitBottom m) (sym (partial_sum-next ws s lo (lo + n) terms (omega arith)))
     (unit-*ℤ m (partial_sum ws s lo (lo + n) terms).bottom (contribution ws terms (tree_of s (lo + n))).bottom above
-    (unit_of_all ws s lo n terms m above (λ j from below. h j from (omega arith))) (h (lo + n) (omega arith) (omega arith))))
+    (unit_of_all ws s lo n terms m above (λ j from below. h j from (omega arith)))
+    (h (lo + n) (omega arith) (omega arith))))
 
--- ---- a block has a residue at each place exactly where none of its numbers is bad
+-- ---- a block has a residue at each index exactly if none of its numbers is bad
 pub none_in_block : (p : Problem) (start stop : ℕ)
     → ((place : ℕ) → place < places_of (view p) → HasUnitBottom (modulus_at p.moduli place) (partial_sum p.setup p.shape start stop (integral_at p.moduli p.integrals place)))
     → NoneBad (is_bad_of (view p)) start stop
@@ -59,7 +61,8 @@ none_in_block p start stop units j from below bad =
     (is_bad_at p.setup p.integrals p.moduli p.shape j (tree_of p.shape j) refl ∙ bad)
 
 pub some_in_block : (p : Problem) (start stop place : ℕ) → start ≤ stop → place < places_of (view p)
-    → lacks_residue (modulus_at p.moduli place) (partial_sum p.setup p.shape start stop (integral_at p.moduli p.integrals place)) ≡ true
+    → lacks_residue (modulus_at p.moduli place) (partial_sum p.setup p.shape start stop (integral_at p.moduli p.integrals place))
+    ≡ true
     → NoneBad (is_bad_of (view p)) start stop → ⊥
 some_in_block p start stop place order within lacks none =
     clash (has_unit m (partial_sum p.setup p.shape start stop terms)
@@ -75,7 +78,8 @@ some_in_block p start stop place order within lacks none =
     clash : {b : Bool} → b ≡ false → b ≡ true → ⊥
     clash p q = cc
 
-    each : (j : ℕ) → start ≤ j → j < start + (stop - start) → HasUnitBottom m (contribution p.setup terms (tree_of p.shape j))
+    each : (j : ℕ) → start ≤ j → j < start + (stop - start)
+        → HasUnitBottom m (contribution p.setup terms (tree_of p.shape j))
     each j from below =
         unit_unless m (contribution p.setup terms (tree_of p.shape j))
         (λ h. none j from (omega arith)
@@ -97,13 +101,15 @@ pub no_ratios : (p : Problem) (start : ℕ) (ratios : List Ratio) → ratios ≡
 no_ratios p start ratios e = record {
   each = λ place within.
       let m = modulus_at p.moduli place in
-      subst (λ f. IsRatioOf m f (ratio_at ratios place)) (sym (partial_sum-none p.setup p.shape start (integral_at p.moduli p.integrals place)))
+      subst (λ f. IsRatioOf m f (ratio_at ratios place))
+      (sym (partial_sum-none p.setup p.shape start (integral_at p.moduli p.integrals place)))
       (subst (λ r. IsRatioOf m (fraction (pos 0) (pos 1)) r)
       (sym (ap (λ rs. ratio_at rs place) e ∙ get_or-replicate 64 place no_ratio (record { top = 0; bottom = 0 }) (within_64 p place within)))
       (ratio_of_zero m (modulus_above p place)));
 }
 
-pub ratios_more : (p : Problem) (start k : ℕ) (g : DecoratedTree) (old new : List Ratio) → start ≤ k → g ≡ tree_of p.shape k
+pub ratios_more : (p : Problem) (start k : ℕ) (g : DecoratedTree) (old new : List Ratio) → start ≤ k
+    → g ≡ tree_of p.shape k
     → AreRatiosOf p.moduli p.integrals (partial_sum p.setup p.shape start k) old
     → ((place : ℕ) → place < places_of (view p) → AddsFraction (modulus_at p.moduli place)
     (contribution p.setup (integral_at p.moduli p.integrals place) g) (ratio_at old place) (ratio_at new place))
@@ -122,7 +128,8 @@ ratios_more p start k g old new from e ratios added = record {
 pub sums_more : (p : Problem) (first start stop : ℕ) (old new : List ℕ) → first ≤ start → start ≤ stop → length new ≡ 64
     → ArePartialSums (view p) first start old
     → ((place : ℕ) → place < places_of (view p) → AddsResidue (modulus_at p.moduli place)
-    (partial_sum p.setup p.shape start stop (integral_at p.moduli p.integrals place)) (slice_index old place) (slice_index new place))
+    (partial_sum p.setup p.shape start stop (integral_at p.moduli p.integrals place)) (slice_index old place)
+    (slice_index new place))
     → ArePartialSums (view p) first stop new
 sums_more p first start stop old new from order long sums added = record {
   as_many = let most = at_most_64 p in omega arith;
@@ -132,7 +139,8 @@ sums_more p first start stop old new from order long sums added = record {
       let before = partial_sum p.setup p.shape first start terms in
       let block = partial_sum p.setup p.shape start stop terms in
       let a = added place within in
-      subst (λ f. IsResidue m f (slice_index new place)) (sym (partial_sum-cut p.setup p.shape first start stop terms from order))
+      subst (λ f. IsResidue m f (slice_index new place))
+      (sym (partial_sum-cut p.setup p.shape first start stop terms from order))
       (subst (IsResidue m (plus before block)) (sym a.sum)
       (IsResidue-plus m before block (slice_index old place) a.value (modulus_above p place) (sums.each place within) a.is_residue));
 }

@@ -27,7 +27,9 @@ psi : IsPower 1 (record { class = Psi 1; power = 1 })
 psi = record { class = record { parameter = tt; mark = (omega arith, omega arith) }; least = omega arith; most = omega arith }
 
 two_powers : (p : Power) → IsPower 1 p → All (IsPower 1) (record { class = Incidence 2; power = 5 } ∷ p ∷ [])
-two_powers p h = All-cons (IsPower 1) (record { class = Incidence 2; power = 5 }) (p ∷ []) points (All-cons (IsPower 1) p [] h (All-nil (IsPower 1)))
+two_powers p h =
+    All-cons (IsPower 1) (record { class = Incidence 2; power = 5 }) (p ∷ []) points
+    (All-cons (IsPower 1) p [] h (All-nil (IsPower 1)))
 
 on_line : IsTermOf plane (five_points (pos 1) (record { class = Mark 1; power = 1 }))
 on_line = record {
@@ -53,7 +55,8 @@ first = record { some = omega arith; each = All-cons (IsTermOf plane) line_term 
 second : IsIntegralOf plane (psi_term ∷ line_term ∷ [])
 second = record {
   some = omega arith;
-  each = All-cons (IsTermOf plane) psi_term (line_term ∷ []) with_psi (All-cons (IsTermOf plane) line_term [] on_line (All-nil (IsTermOf plane)));
+  each = All-cons (IsTermOf plane) psi_term (line_term ∷ []) with_psi
+      (All-cons (IsTermOf plane) line_term [] on_line (All-nil (IsTermOf plane)));
 }
 
 integrals : All (IsIntegralOf plane) conic_integrals
@@ -68,7 +71,8 @@ coprime : gcd 1000000007 101 ≡ 1
 unfolding last_remainder
 coprime = gcd_by_euclid _ _ 1 refl
 
-pub conics_rules : (s : TreeShape) (ws : List ℤ) (ms : List ℕ) (is : List (List Term)) → s ≡ plane → within_limits plane ≡ true → tree_count plane ≤ 2 ^ 40
+pub conics_rules : (s : TreeShape) (ws : List ℤ) (ms : List ℕ) (is : List (List Term)) → s ≡ plane
+    → within_limits plane ≡ true → tree_count plane ≤ 2 ^ 40
     → length ws ≡ 3 → AreWeights ws → ms ≡ two_moduli 101 → is ≡ conic_integrals
     → KeepsRules (record { shape = s; weights = ws; moduli = ms; top_bound = 100; bottom_bound = 100; integrals = is })
 conics_rules s ws ms is e within few three weights f g =

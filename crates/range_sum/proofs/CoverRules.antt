@@ -39,7 +39,8 @@ coprime : gcd 1000000007 5 ≡ 1
 unfolding last_remainder
 coprime = gcd_by_euclid _ _ 1 refl
 
-pub covers_rules : (s : TreeShape) (ws : List ℤ) (ms : List ℕ) (is : List (List Term)) → s ≡ line → within_limits line ≡ true → tree_count line ≤ 2 ^ 40
+pub covers_rules : (s : TreeShape) (ws : List ℤ) (ms : List ℕ) (is : List (List Term)) → s ≡ line
+    → within_limits line ≡ true → tree_count line ≤ 2 ^ 40
     → length ws ≡ 2 → AreWeights ws → ms ≡ two_moduli 5 → is ≡ cover_integrals
     → KeepsRules (record { shape = s; weights = ws; moduli = ms; top_bound = 100; bottom_bound = 100; integrals = is })
 covers_rules s ws ms is e within few two weights f g =

@@ -1,5 +1,6 @@
 pub mod ProblemTrees
-pub mod Places
+pub mod BadTrees
+pub mod SumIndices
 pub mod RangeLaws
 pub mod BlockLaws
 pub mod TestRules

@@ -51,7 +51,8 @@ dimension_within s h =
     let rank = l.most_rank in
     let degree = l.most_degree in
     let marks = l.most_marks in
-    let most : (s.rank + 1) * s.degree ≤ 13 * 10 = mul-le-mul (let above : s.rank + 1 ≤ 13 = omega arith in above) degree in
+    let most : (s.rank + 1) * s.degree ≤ 13 * 10 =
+    mul-le-mul (let above : s.rank + 1 ≤ 13 = omega arith in above) degree in
     omega (arith, most, rank, marks)
 
 term_for : (s : TreeShape) → within_limits s ≡ true → (term : Term) → IsTermOf s term → IsTermFor s.marks term
@@ -65,12 +66,17 @@ term_for s h term t = record {
 }
 
 -- ---- the terms of an integral of a problem
-pub terms_for : (s : TreeShape) (integrals : List (List Term)) (i : ℕ) (terms : List Term) → within_limits s ≡ true → All (IsIntegralOf s) integrals
+pub terms_for : (s : TreeShape) (integrals : List (List Term)) (i : ℕ) (terms : List Term) → within_limits s ≡ true
+    → All (IsIntegralOf s) integrals
     → slice_get integrals i ≡ Some terms → All (IsTermFor s.marks) terms
 terms_for s integrals i terms h all e =
-    let there = subst (IsIntegralOf s) (get_or_from_slice_get integrals i terms [] e) (all i [] (slice_get_within integrals i terms e)) in
+    let there =
+    subst (IsIntegralOf s) (get_or_from_slice_get integrals i terms [] e)
+    (all i [] (slice_get_within integrals i terms e)) in
     All-weaker (IsTermOf s) (IsTermFor s.marks) (term_for s h) terms there.each
 
 -- ---- the trees of a problem
-pub tree_of_rank : (s : TreeShape) (t : Tree) (rank : ℕ) → within_limits s ≡ true → rank ≡ s.rank → IsTrue (is_tree_of s t) → IsTreeOfRank rank t
-tree_of_rank s t rank h e tree = let l = limits s.rank s.degree s.marks h in (s, sym e, l.most_degree, l.most_marks, tree)
+pub tree_of_rank : (s : TreeShape) (t : Tree) (rank : ℕ) → within_limits s ≡ true → rank ≡ s.rank
+    → IsTrue (is_tree_of s t) → IsTreeOfRank rank t
+tree_of_rank s t rank h e tree =
+    let l = limits s.rank s.degree s.marks h in (s, sym e, l.most_degree, l.most_marks, tree)

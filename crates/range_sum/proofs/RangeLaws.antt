@@ -19,9 +19,9 @@ use Rattle.problem.specs.declared.problem.Problem.{Problem}
 use Rattle.problem.specs.Problems.{view}
 use Rattle.problem.specs.Sums.{count_of, ArePartialSums, AreKontsevichSums}
 use Rattle.decorated_tree.proofs.Counts.{limits}
-use Rattle.range_sum.proofs.Places.{at_most_64}
+use Rattle.range_sum.proofs.SumIndices.{at_most_64}
 
--- a decorated tree of the shape, and that of the number k where k is below the end
+-- a decorated tree of the shape, and that of the number k if k is below the end
 pub record IsTreeUpTo (s : TreeShape) (end k : ℕ) (t : Tree) : Type 0 where
   pub value : k < end → tree_view t ≡ tree_of s k
   pub decorated : IsTrue (is_decorated s (tree_view t))
@@ -41,7 +41,8 @@ one_is_unit m = gcd_from_IsGcd 1 m 1 (dvd_refl 1, one-dvd m, λ d p q. p)
 
 residue_of_zero : (m : ℕ) → 1 < m → IsResidue m (fraction (pos 0) (pos 1)) 0
 residue_of_zero m h =
-    IsResidue-from m (fraction (pos 0) (pos 1)) 0 0 1 (omega arith) (reduce-pos m 0 ∙ mod-eq_of_lt (omega arith)) (reduce-pos m 1 ∙ mod-eq_of_lt h)
+    IsResidue-from m (fraction (pos 0) (pos 1)) 0 0 1 (omega arith) (reduce-pos m 0 ∙ mod-eq_of_lt (omega arith))
+    (reduce-pos m 1 ∙ mod-eq_of_lt h)
     (omega arith) (one_is_unit m) (mod-eq_of_lt (omega arith))
 
 pub zeros : (n i : ℕ) → slice_index (replicate n 0) i ≡ 0
@@ -49,22 +50,26 @@ zeros zero i = refl
 zeros (suc n) zero = refl
 zeros (suc n) (suc i) = zeros n i
 
-pub no_numbers : (p : Problem) (first : ℕ) (sums : List ℕ) → sums ≡ replicate 64 0 → ArePartialSums (view p) first first sums
+pub no_numbers : (p : Problem) (first : ℕ) (sums : List ℕ) → sums ≡ replicate 64 0
+    → ArePartialSums (view p) first first sums
 no_numbers p first sums e = record {
   as_many = let most = at_most_64 p in let l : length sums ≡ 64 = ap length e ∙ length-replicate {A = ℕ} 64 0 in omega arith;
   each = λ place h.
       let m = modulus_at p.moduli place in
       let above : 1 < m = modulus_above p place in
       let r : IsResidue m (fraction (pos 0) (pos 1)) 0 = residue_of_zero m above in
-      subst (λ f. IsResidue m f (slice_index sums place)) (sym (partial_sum-none p.setup p.shape first (integral_at p.moduli p.integrals place)))
+      subst (λ f. IsResidue m f (slice_index sums place))
+      (sym (partial_sum-none p.setup p.shape first (integral_at p.moduli p.integrals place)))
       (subst (λ x. IsResidue m (fraction (pos 0) (pos 1)) x) (sym (ap (λ xs. slice_index xs place) e ∙ zeros 64 place)) r);
 }
 
-pub none_append : (bad : ℕ → Bool) (first start stop : ℕ) → NoneBad bad first start → NoneBad bad start stop → NoneBad bad first stop
+pub none_append : (bad : ℕ → Bool) (first start stop : ℕ) → NoneBad bad first start → NoneBad bad start stop
+    → NoneBad bad first stop
 none_append bad first start stop before after j from below e =
     ⊎_elim (λ earlier. before j from earlier e) (λ later. after j later below e) (cases_lt j start)
 
-pub sums_to : (p : Problem) (first k end : ℕ) (sums : List ℕ) → k ≡ end → ArePartialSums (view p) first k sums → ArePartialSums (view p) first end sums
+pub sums_to : (p : Problem) (first k end : ℕ) (sums : List ℕ) → k ≡ end → ArePartialSums (view p) first k sums
+    → ArePartialSums (view p) first end sums
 sums_to p first k end sums e h = subst (λ n. ArePartialSums (view p) first n sums) e h
 
 -- over all numbers the sums are Kontsevich's

@@ -25,7 +25,8 @@ are_moduli : (m : ℕ) → IsModulus m → gcd 1000000007 m ≡ 1 → AreModuli 
 are_moduli m h e = record {
   least = omega arith;
   most = omega arith;
-  each = All-cons IsModulus 1000000007 (m ∷ []) (record { odd = refl; at_least_3 = omega arith; limited = omega arith }) (All-cons IsModulus m [] h (All-nil IsModulus));
+  each = All-cons IsModulus 1000000007 (m ∷ []) (record { odd = refl; at_least_3 = omega arith; limited = omega arith })
+      (All-cons IsModulus m [] h (All-nil IsModulus));
   coprime = coprime m e;
   product = let limited = h.limited in omega arith;
 }
@@ -39,8 +40,10 @@ are_bounds m h = record {
   below = let least = h.at_least_3 in omega arith;
 }
 
-pub keeps_rules : (s : TreeShape) (ws : List ℤ) (m : ℕ) (is : List (List Term)) → within_limits s ≡ true → tree_count s ≤ 2 ^ 40 → length ws ≡ s.rank + 1
-    → AreWeights ws → IsModulus m → gcd 1000000007 m ≡ 1 → 1 ≤ length is → length is ≤ 8 → sum_by length is ≤ 32 → All (IsIntegralOf s) is
+pub keeps_rules : (s : TreeShape) (ws : List ℤ) (m : ℕ) (is : List (List Term)) → within_limits s ≡ true
+    → tree_count s ≤ 2 ^ 40 → length ws ≡ s.rank + 1
+    → AreWeights ws → IsModulus m → gcd 1000000007 m ≡ 1 → 1 ≤ length is → length is ≤ 8 → sum_by length is ≤ 32
+    → All (IsIntegralOf s) is
     → KeepsRules (record { shape = s; weights = ws; moduli = two_moduli m; top_bound = 100; bottom_bound = 100; integrals = is })
 keeps_rules s ws m is within few each weights modulus e some most terms integrals = record {
   shape = within;

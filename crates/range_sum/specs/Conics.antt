@@ -12,5 +12,6 @@ five_points coefficient other = record { coefficient = coefficient; classes = re
 abbrev pub conic_integrals : List (List Term)
 conic_integrals =
     (five_points (pos 1) (record { class = Mark 1; power = 1 }) ∷ [])
-    ∷ (five_points (pos 3) (record { class = Psi 1; power = 1 }) ∷ five_points (pos 1) (record { class = Mark 1; power = 1 }) ∷ [])
+    ∷
+    (five_points (pos 3) (record { class = Psi 1; power = 1 }) ∷ five_points (pos 1) (record { class = Mark 1; power = 1 }) ∷ [])
     ∷ []

@@ -12,7 +12,7 @@ pub record AddsResidue (m : ℕ) (f : Fraction) (old new : ℕ) : Type 0 where
   pub is_residue : IsResidue m f value
   pub sum : new ≡ (old + value) % m
 
--- the ratio at a place, 0 over 0 past the last
+-- the ratio at an index, 0 over 0 past the last
 abbrev pub ratio_at : List Ratio → ℕ → Ratio
 ratio_at ratios place = slice_index_or ratios place (record { top = 0; bottom = 0 })
 

@@ -12,14 +12,14 @@ use problem::Problem;
 use residue::{NoUnit, Ratio};
 use tree_parts::TreeParts;
 
-/// The residue of the contribution of a tree of the problem's shape to the integral at the place `integral`, modulo the
-/// modulus at the place `modulus`, both counted from 0. It takes no memory.
+/// The residue of the contribution of a tree of the problem's shape to the integral with the index `integral`, modulo
+/// the modulus with the index `modulus`, both counted from 0. It takes no memory.
 ///
 /// The contribution is the sum over the terms of the integral of the fractions of all vertices, times the term's value;
-/// times the fractions of all edges, over `n!` where the tree has `n` vertices (Kontsevich 1995).
+/// times the fractions of all edges, over `n!` if the tree has `n` vertices (Kontsevich 1995).
 ///
 /// # Errors
-/// `NoUnit` exactly where the bottom of the contribution and the modulus have a common divisor above 1.
+/// `NoUnit` exactly if the bottom of the contribution and the modulus have a common divisor above 1.
 pub fn contribution(
     problem: &Problem,
     integral: u8,
@@ -47,7 +47,7 @@ pub(crate) fn parts_of(problem: &Problem, tree: &Tree) -> TreeParts
 /// The residue of the contribution of a tree of the problem's shape, which is given by its parts.
 ///
 /// # Errors
-/// `NoUnit` exactly where the bottom of the contribution and the modulus have a common divisor above 1.
+/// `NoUnit` exactly if the bottom of the contribution and the modulus have a common divisor above 1.
 pub(crate) fn tree_residue(
     problem: &Problem,
     integral: u8,

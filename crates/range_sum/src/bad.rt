@@ -27,7 +27,8 @@ pub fn first_bad_modulus(problem: &Problem, k: u64) -> Option<u8>
     None
 }
 
-/// The least of the numbers from `start` to `stop - 1` whose tree is bad for some modulus. `None` exactly where none is.
+/// The least of the numbers from `start` to `stop - 1` whose tree is bad for some modulus. `None` exactly if there is
+/// none.
 pub(crate) fn least_bad(problem: &Problem, start: u64, stop: u64) -> Option<u64>
     requires within { stop ≤ count_of (problem_view problem.now) }
     ensures none { IsNone result → NoneBad (is_bad_of (problem_view problem.now)) start stop }
@@ -41,7 +42,7 @@ pub(crate) fn least_bad(problem: &Problem, start: u64, stop: u64) -> Option<u64>
     None
 }
 
-/// Whether the contribution of a tree to some integral has no residue modulo the modulus at this place.
+/// Whether the contribution of a tree to some integral has no residue modulo the modulus with this index.
 fn is_bad_at(problem: &Problem, parts: &TreeParts, modulus: u8) -> bool
     requires shape { parts.now.shape ≡ problem.now.shape }
     requires modulus_within { modulus < length problem.now.moduli }

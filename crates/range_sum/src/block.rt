@@ -14,8 +14,9 @@ use decorated_tree::Tree;
 use problem::Problem;
 use residue::{NoUnit, Ratio};
 
-/// Adds the contributions of the trees of the numbers from `start` to `stop - 1` to the sums, or tells the least of these
-/// numbers whose tree is bad for some modulus; the sums then mean nothing. It divides once for each integral and modulus.
+/// Adds the contributions of the trees of the numbers from `start` to `stop - 1` to the sums, or returns the least of
+/// these numbers whose tree is bad for some modulus; the sums then mean nothing. It divides once for each integral and
+/// modulus.
 pub(crate) fn add_block(
     problem: &Problem,
     start: u64,

@@ -11,24 +11,25 @@ use problem::Problem;
 /// Stands for the least bad number of a range that has none: 2^64 - 1, which no tree has as its number.
 pub const NONE_BAD: u64 = u64::MAX;
 
-/// A range is summed in blocks of at most so many numbers. There is one division for each block, integral and modulus: 64
-/// trees make it small beside their contributions, and a bad tree is noticed at most 64 trees late.
+/// A range is summed in blocks of at most so many numbers. There is one division for each block, integral and modulus:
+/// 64 trees make it small beside their contributions, and a bad tree is noticed at most 64 trees late.
 const BLOCK: u64 = 64;
 
 /// The sums of the contributions of a range of trees.
 #[derive(Debug, Drop)]
 pub struct RangeTotal {
-    /// The residues of the partial sums, integral by integral and within one integral modulus by modulus. Places past
-    /// them hold 0.
+    /// The residues of the partial sums, integral by integral and within one integral modulus by modulus. The
+    /// entries past them are 0.
     pub sums: [u64; 64],
     /// The least number whose tree is bad for some modulus, or [`NONE_BAD`].
     pub least: u64,
 }
 
-/// Sums the contributions of the trees of the numbers from `first` to `end - 1`, where `end` is at most the number of
+/// Sums the contributions of the trees of the numbers from `first` to `end - 1`; `end` is at most the number of
 /// decorated trees of the problem. Over all numbers, from 0 on, the sums are Kontsevich's. It takes no memory.
 ///
-/// Where a tree of the range is bad for some modulus, the least such number is told, and the sums mean nothing.
+/// If a tree of the range is bad for some modulus, the least number of such a tree is returned, and the sums mean
+/// nothing.
 pub fn sum_range(problem: &Problem, first: u64, end: u64) -> RangeTotal
     requires order { first ≤ end }
     requires within { end ≤ count_of (problem_view problem.now) }

@@ -68,8 +68,8 @@ fn term(alloc: Global, coefficient: i64, other: Power) -> Result<Term, Fail>
     })
 }
 
-/// The covers of degree 4 of a line, modulo 1,000,000,007 and 5, by the square of the class of the first direct image of
-/// O(-1).
+/// The covers of degree 4 of a line, modulo 1,000,000,007 and 5, by the square of the class of the first direct image
+/// of O(-1).
 fn covers(alloc: Global) -> Result<Problem, Fail> {
     let Ok(shape) = Shape::new(1, 4, 0) else {
         return Err("refused".into());

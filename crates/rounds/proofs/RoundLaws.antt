@@ -18,7 +18,7 @@ use Rattle.worker_pool.specs.Rounds.{IsCleanRound, all_clean, blocks_of}
 use Rattle.sum_job.specs.declared.part.PartSum.{PartSum}
 use Rattle.sum_job.specs.Parts.{JobView, KeepsJob, block_count, block_start, block_stop, least_bad_among, least_bad_of, sum_of_blocks, sum_at, IsReady, AreReduced, StandsFor, GrewByNumbers}
 use Rattle.sum_job.proofs.JobLaws.{among_none_back, among_some_back}
-use Rattle.sum_job.proofs.Places.{modulus_above}
+use Rattle.sum_job.proofs.AddedResidues.{modulus_above}
 use Rattle.sum_job.proofs.Together.{together}
 
 -- ---- bad numbers

@@ -11,7 +11,7 @@ use Rattle.problem.specs.Rules.{KeepsRules}
 use Rattle.problem.specs.Sums.{is_bad_of, ArePartialSums}
 use Rattle.checkpoint.specs.States.{AreResidues}
 use Rattle.sum_job.specs.Parts.{GrewByNumbers}
-use Rattle.sum_job.proofs.Places.{modulus_above, residue_of_zero}
+use Rattle.sum_job.proofs.AddedResidues.{modulus_above, residue_of_zero}
 use Rattle.rounds.specs.Outcomes.{SumView, IsSummed, IsTrueSum}
 use Rattle.rounds.proofs.RoundLaws.{residues_reduced}
 

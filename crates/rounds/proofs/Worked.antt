@@ -2,7 +2,8 @@
 use Rattle.std.proofs.Common.{◌≡◌, refl}
 use Rattle.rounds.specs.Rounds.{budget_end, reached, blocks_of_round, blocks_of_rounds}
 
--- 176,100 trees have rounds of 65,536, 65,536 and 45,028, with 1,024, 1,024 and 704 blocks, of which the last has 36 trees
+-- 176,100 trees have rounds of 65,536, 65,536 and 45,028, with 1,024, 1,024 and 704 blocks, of which the last has 36
+-- trees
 three_rounds : budget_end 176100 0 1099511627776 ≡ 176100
 three_rounds = refl
 

@@ -8,8 +8,8 @@ use Rattle.rounds.specs.Outcomes.{SumView, IsSummed, IsOutcome}
 use Rattle.rounds.specs.declared.progress.Outcome.{Outcome}
 use Rattle.rounds.specs.declared.progress.Outcome.TheVariants.{Done, Paused, NoInverse}
 
--- The sum of a problem began at the number first with the residues begin, and calls that paused, however many, led to the
--- number next with other residues.
+-- The sum of a problem began at the number first with the residues begin, and calls that paused, however many, led to
+-- the number next with other residues.
 pub data IsChain (p : ProblemView) (first : ℕ) (begin : List ℕ) : ℕ → List ℕ → Type 0 where
   begun : first ≤ count_of p → AreResidues p begin → IsChain p first begin first begin
   paused : (next budget k later : ℕ) (residues more : List ℕ) → IsChain p first begin next residues

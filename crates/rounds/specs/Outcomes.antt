@@ -29,7 +29,7 @@ IsRoundSum p first end old new None =
 IsRoundSum p first end old new (Some bad) =
     IsLeastBad (is_bad_of p) first end bad.number × IsFirstBad (is_bad_modulo p bad.number) p.moduli bad.modulus
 
--- done where no tree is left, and paused otherwise
+-- done if no tree is left, and paused otherwise
 abbrev pub ended : ℕ → ℕ → List ℕ → Outcome
 ended count at residues = if at == count then Done residues else Paused at residues
 
@@ -93,8 +93,8 @@ KeepsTruth s (Done residues) = IsTrueSum s → AreKontsevichSums s.problem resid
 KeepsTruth s (Paused next residues) = IsTrueSum s → IsTrueSum (record s { next = next; residues = residues })
 KeepsTruth s (NoInverse number modulus) = Unit {0}
 
--- What an outcome names is of the problem: there is a residue for each integral and modulus, below its modulus; the next
--- number is at most the number of trees; a bad tree has a number, and its modulus is one of the problem.
+-- What an outcome names is of the problem: there is a residue for each integral and modulus, below its modulus; the
+-- next number is at most the number of trees; a bad tree has a number, and its modulus is one of the problem.
 abbrev pub IsOfProblem : ProblemView → Outcome → Type 0
 IsOfProblem p (Done residues) = AreResidues p residues
 IsOfProblem p (Paused next residues) = (next ≤ count_of p) × AreResidues p residues

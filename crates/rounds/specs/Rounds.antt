@@ -3,7 +3,8 @@ use Rattle.std.specs.Prelude.{ℕ, suc, ◌+◌, ◌*◌, ◌<◌, min}
 use Rattle.claim_table.specs.Counts.{sum_below}
 use Rattle.sum_job.specs.Parts.{block_count}
 
--- where a call that may sum so many trees from next on ends at the latest: at the last tree, or where the budget is used up
+-- where a call that may sum so many trees from next on ends at the latest: at the last tree, or when the budget is used
+-- up
 abbrev pub budget_end : ℕ → ℕ → ℕ → ℕ
 budget_end count next budget = min count (next + budget)
 

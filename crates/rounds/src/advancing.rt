@@ -12,7 +12,7 @@ ghost use Rattle.rounds.specs.Chains.{IsChain, IsEndOfChain};
 
 use crate::parts::new_parts;
 use crate::progress::{Outcome, Progress};
-use crate::round::sum_round;
+use crate::round::{BadTree, sum_round};
 use checkpoint::State;
 use locus_io::Stopper;
 use problem::Problem;
@@ -29,14 +29,14 @@ const ROUND: u64 = 65_536;
 /// Sums the trees of a problem from the number `next` on, and adds to the residues of the sums so far. It sums at most
 /// `budget` trees, from 1 to 2^40, on 1 to 64 workers, in rounds of at most 65,536.
 ///
-/// After each round the first of these that holds ends the call: a tree of the round is bad; no tree is left; the budget is
-/// used up; a name for stops was given and the stopper, which is asked now about that name, says yes. If no tree is left at
-/// the start, the call is done at once.
+/// After each round the first of these that holds ends the call: a tree of the round is bad; no tree is left; the
+/// budget is used up; a name for stops was given and the stopper, which is asked now about that name, says yes. If no
+/// tree is left at the start, the call is done at once.
 ///
 /// All workers share a table of factors, which the call makes before its first round and fills as it goes.
 ///
 /// # Errors
-/// `NoMemory` where there is no memory for the table of factors, the residues, the parts of the workers, the claims of a
+/// `NoMemory` if there is no memory for the table of factors, the residues, the parts of the workers, the claims of a
 /// round, or a question to the stopper.
 pub fn advance_problem<R: Threads + Sync, S: Stopper, G: Gate>(
     rt: &R,
@@ -192,10 +192,7 @@ fn run_rounds<R: Threads + Sync, S: Stopper, G: Gate>(
             &mut shares,
         )?;
         if let Some(bad) = found {
-            let outcome = Outcome::NoInverse {
-                number: bad.number,
-                modulus: bad.modulus,
-            };
+            let outcome = bad_outcome(bad);
             return Ok(Progress { outcome, shares });
         }
         at = stop;
@@ -212,6 +209,16 @@ fn run_rounds<R: Threads + Sync, S: Stopper, G: Gate>(
     })
 }
 
+/// The outcome of a call that met a bad tree.
+fn bad_outcome(bad: BadTree) -> Outcome
+    ensures { result ≡ Outcome.NoInverse bad.number bad.modulus }
+{
+    Outcome::NoInverse {
+        number: bad.number,
+        modulus: bad.modulus,
+    }
+}
+
 /// Where a call ends that has summed all numbers below `at`, and met no bad tree.
 fn outcome_at(count: u64, at: u64, sums: Vec<u64>) -> Outcome
     ensures { result ≡ ended count at sums.items }
@@ -224,7 +231,7 @@ fn outcome_at(count: u64, at: u64, sums: Vec<u64>) -> Outcome
     }
 }
 
-/// Whether a stop is asked for under the name, if there is one. Where nothing is left to stop, nobody is asked.
+/// Whether a stop is asked for under the name, if there is one. If nothing is left to stop, nobody is asked.
 fn is_stopped<S: Stopper>(
     alloc: Global,
     stopper: &mut S,

@@ -28,12 +28,12 @@ pub(crate) struct BadTree {
     pub(crate) modulus: u8,
 }
 
-/// Sums the numbers from `first` to `end - 1` on as many workers as there are parts, and adds the sums to the residues; or
-/// tells the least bad tree, and the residues stay. What the parts held before does not matter, but for their seats, which
-/// are of the table and stay so.
+/// Sums the numbers from `first` to `end - 1` on as many workers as there are parts, and adds the sums to the residues;
+/// or returns the least bad tree, and the residues stay. What the parts held before does not matter, but for their
+/// seats, which are of the table and stay so.
 ///
 /// # Errors
-/// `NoMemory` where there is no memory for the claims of the round. It comes before the first tree is summed.
+/// `NoMemory` if there is no memory for the claims of the round. It comes before the first tree is summed.
 pub(crate) fn sum_round<R: Threads + Sync, G: Gate>(
     rt: &R,
     alloc: Global,

@@ -199,8 +199,8 @@ fn pause_of(outcome: &Outcome) -> Option<(u64, &[u64])>
     }
 }
 
-// Goes on until no tree is left, with a budget for each call. It tells how the last call ended, and how many calls and blocks
-// there were.
+// Goes on until no tree is left, with a budget for each call. It returns how the last call ended, and how many calls
+// and blocks there were.
 fn chain<R: Threads + Sync>(
     rt: &R,
     alloc: Global,
@@ -251,8 +251,8 @@ fn eight_covers_one_at_a_time(rt: HostRuntime) -> Result<(), Fail> {
     Ok(())
 }
 
-// 5,620 trees are 89 times 63 and 13 more, 87 times 64 and 52 more, and 86 times 65 and 30 more. A budget of 65 has a block
-// of 64 trees and one of a single tree.
+// 5,620 trees are 89 times 63 and 13 more, 87 times 64 and 52 more, and 86 times 65 and 30 more. A budget of 65 has a
+// block of 64 trees and one of a single tree.
 #[test]
 fn twisted_cubics_in_short_calls(rt: HostRuntime) -> Result<(), Fail> {
     let alloc = rt.alloc();
@@ -275,8 +275,8 @@ fn twisted_cubics_in_short_calls(rt: HostRuntime) -> Result<(), Fail> {
     Ok(())
 }
 
-// 176,100 trees: a budget of 65,535 or 65,536 has three calls of 1,024 blocks at most, and one of 65,537 has three calls too,
-// the first two of which have a second round of a single tree.
+// 176,100 trees: a budget of 65,535 or 65,536 has three calls of 1,024 blocks at most, and one of 65,537 has three
+// calls too, the first two of which have a second round of a single tree.
 #[test]
 fn quartics_in_calls_of_about_a_round(rt: HostRuntime) -> Result<(), Fail> {
     let alloc = rt.alloc();

@@ -1,5 +1,5 @@
 pub mod JobLaws
-pub mod Places
+pub mod AddedResidues
 pub mod PartLaws
 pub mod Orders
 pub mod Together

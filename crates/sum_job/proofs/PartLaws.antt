@@ -23,7 +23,7 @@ use Rattle.worker_pool.specs.Rounds.{at_most, answers, blocks_of}
 use Rattle.sum_job.specs.declared.part.PartSum.{PartSum}
 use Rattle.sum_job.specs.Parts.{JobView, KeepsJob, least_bad_of, block_start, block_stop, block_sum, sum_of_blocks, IsReady, IsWorked, KnowsBlock, AreClean, StandsFor, least_with, IsAdded}
 use Rattle.sum_job.proofs.JobLaws.{among_some_back}
-use Rattle.sum_job.proofs.Places.{at_most_64, modulus_above, residue_of_zero, zeros}
+use Rattle.sum_job.proofs.AddedResidues.{at_most_64, modulus_above, residue_of_zero, zeros}
 
 -- ---- no block
 pub empty_part : (job : JobView) (part : PartSum) → KeepsJob job → IsSeatOf part.seat job.table → part.sums ≡ replicate 64 0 → part.least ≡ nothing_bad

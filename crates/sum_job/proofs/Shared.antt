@@ -6,7 +6,7 @@ use Rattle.problem.specs.declared.problem.Problem.{Problem}
 use Rattle.problem.specs.Problems.{view}
 use Rattle.table_sum.specs.Sums.{GrowBy}
 use Rattle.sum_job.specs.Parts.{AreReduced, GrewByNumbers}
-use Rattle.sum_job.proofs.Places.{modulus_above}
+use Rattle.sum_job.proofs.AddedResidues.{modulus_above}
 
 -- sums that grew through the table grew by the numbers
 pub grown : (p : Problem) (start stop : ℕ) (old new : List ℕ) → GrowBy p (partial_sum p.setup p.shape start stop) old new

@@ -130,8 +130,8 @@ residues_of_parts m place f (xs ∷ taken) [] e h = absurd (omega arith)
 residues_of_parts m place f (xs ∷ taken) (p ∷ parts) e h =
     one (h 0 p (omega arith)) (residues_of_parts m place f taken parts (omega arith) (λ worker d lt. h (suc worker) d (omega arith)))
 
--- The parts of all workers, each of which has the residue of the sum over its worker's blocks, add up to the residue of the
--- partial sum over the numbers of the job.
+-- The parts of all workers, each of which has the residue of the sum over its worker's blocks, add up to the residue of
+-- the partial sum over the numbers of the job.
 pub together : (job : JobView) (place m : ℕ) (terms : List Term) (workers : ℕ) (owners : List ℕ) (taken : List (List ℕ)) (parts : List PartSum)
     → 1 < m → job.first ≤ job.end → length parts ≡ workers → IsLegal (plan (block_count job.first job.end) workers) owners taken
     → ((worker : ℕ) (d : PartSum) → worker < workers

@@ -1,6 +1,5 @@
 -- The blocks of a range of numbers, and what a worker's part stands for.
 use Rattle.std.specs.Prelude.{◌≡◌, ℕ, zero, suc, ◌+◌, ◌-◌, ◌*◌, ◌/◌, ◌%◌, ◌<◌, ◌≤◌, Bool, List, Option, Some, None, if◌then◌else◌, length, map, min, slice_index, All}
-use Rattle.trees.specs.Numbers.{tree_of}
 use Rattle.arithmetic.specs.Fractions.{Fraction, sum_of_fractions, IsResidue}
 use Rattle.residue.specs.declared.class.Term.{Term}
 use Rattle.localisation.specs.Contribution.{partial_sum}
@@ -12,7 +11,7 @@ use Rattle.worker_pool.specs.Rounds.{blocks_of, answers}
 use Rattle.factor_table.specs.declared.table.FactorTable.{FactorTable}
 use Rattle.factor_table.specs.declared.table.FactorSeat.{FactorSeat}
 use Rattle.factor_table.specs.Seats.{IsSeatOf}
-use Rattle.table_sum.specs.Trees.{KnowsEdges}
+use Rattle.table_sum.specs.Sums.{KnowsTrees}
 use Rattle.sum_job.specs.declared.part.PartSum.{PartSum}
 
 -- the trees of a problem of the numbers from first to end - 1, and the table of its factors
@@ -73,14 +72,9 @@ pub record IsReady (job : JobView) (part : PartSum) : Type 0 where
   pub sums : IsReadyFor job.problem part
   pub seat : IsSeatOf part.seat job.table
 
--- the seat knows the word of each edge of the trees of the numbers from start to stop - 1, for each modulus
-abbrev pub KnowsNumbers : JobView → FactorSeat → ℕ → ℕ → Type 0
-KnowsNumbers job seat start stop = (k : ℕ) → start ≤ k → k < stop
-    → (index : ℕ) → index < length job.problem.moduli → KnowsEdges seat job.table (tree_of job.problem.shape k) index
-
--- .. and of those of a block
+-- the seat knows the word of each edge of the trees of a block, for each modulus
 abbrev pub KnowsBlock : JobView → FactorSeat → ℕ → Type 0
-KnowsBlock job seat block = KnowsNumbers job seat (block_start job block) (block_stop job block)
+KnowsBlock job seat block = KnowsTrees job.problem job.table seat (block_start job block) (block_stop job block)
 
 -- a block is passed over if it begins above the least bad number that was seen before it
 abbrev pub IsWorked : JobView → ℕ × ℕ → Type 0
@@ -91,9 +85,9 @@ pub record AreClean (job : JobView) (pairs : List (ℕ × ℕ)) : Type 0 where
   pub seen : All (λ pair. pair.1 ≡ nothing_bad) pairs
   pub none_bad : All (λ pair. least_bad_of job pair.0 ≡ None) pairs
 
--- A part stands for pairs of a block and the least bad number that was seen before it. If all of them are clean, its sums
--- are the residues of the sums over these blocks, for each integral and modulus. Its least number is the least that was
--- answered. Its seat knows the edges of each of these blocks that was not passed over.
+-- A part stands for pairs of a block and the least bad number that was seen before it. If all of them are clean, its
+-- sums are the residues of the sums over these blocks, for each integral and modulus. Its least number is the least
+-- that was answered. Its seat knows the edges of each of these blocks that was not passed over.
 pub record StandsFor (job : JobView) (part : PartSum) (pairs : List (ℕ × ℕ)) : Type 0 where
   pub sums : AreClean job pairs
       → AreResiduesOf job.problem.moduli job.problem.integrals (sum_of_blocks job (blocks_of pairs)) part.sums
@@ -111,7 +105,8 @@ pub record GrewByResidue (m : ℕ) (f : Fraction) (old new : ℕ) : Type 0 where
   pub is_residue : IsResidue m f value
   pub sum : new ≡ (old + value) % m
 
--- the residues, one for each integral and modulus, grew by those of the partial sums over the numbers from start to stop - 1
+-- the residues, one for each integral and modulus, grew by those of the partial sums over the numbers from start to
+-- stop - 1
 abbrev pub GrewByNumbers : ProblemView → ℕ → ℕ → List ℕ → List ℕ → Type 0
 GrewByNumbers p start stop old new = (place : ℕ) → place < places_of p
     → GrewByResidue (modulus_at p.moduli place) (partial_sum p.weights p.shape start stop (integral_at p.moduli p.integrals place))

@@ -15,10 +15,10 @@ use problem::Problem;
 use range_sum::{NONE_BAD, sum_range};
 use table_sum::TableSum;
 
-/// Adds the contributions of the trees of the numbers from `start` to `stop - 1` to a part, or tells the least of these
-/// numbers that is bad; the sums are as before then. The table is asked first, so that afterwards the part's seat knows
-/// the edges of these trees, whatever the answer is. If a word is no unit, the block is summed without the table. It takes
-/// no memory.
+/// Adds the contributions of the trees of the numbers from `start` to `stop - 1` to a part, or returns the least of
+/// these numbers that is bad; the sums are as before then. The table is asked first, so that afterwards the part's seat
+/// knows the edges of these trees, whatever the answer is. If a word is no unit, the block is summed without the table.
+/// It takes no memory.
 pub(crate) fn add_block(sum: &TableSum, part: &mut PartSum, start: u64, stop: u64) -> Option<u64>
     requires order { start < stop }
     requires within { stop ≤ count_of (problem_view (problem_of sum.now)) }
@@ -30,26 +30,17 @@ pub(crate) fn add_block(sum: &TableSum, part: &mut PartSum, start: u64, stop: u6
     ensures added { IsNone result → IsAdded (problem_view (problem_of sum.now)) start stop part.old part.new }
     ensures ready { IsReadyFor (problem_view (problem_of sum.now)) part.new }
     ensures seat { IsLater (table_of sum.now) part.old.seat part.new.seat }
-    ensures edges { KnowsTrees (problem_of sum.now) (table_of sum.now) part.new.seat start stop }
+    ensures edges { KnowsTrees (problem_view (problem_of sum.now)) (table_of sum.now) part.new.seat start stop }
 {
     let shared = sum.add_block(&mut part.seat, start, stop, &mut part.sums);
-    // No call changes how many sums there are.
-    let _ = row_length(&part.sums);
     match shared {
         Ok(()) => None,
         Err(_) => add_plainly(sum.problem(), &mut part.sums, start, stop),
     }
 }
 
-/// How many sums a part has: 64.
-fn row_length(sums: &[u64; 64]) -> usize
-    ensures { (result ≡ length sums.now) × (length sums.now ≡ 64) }
-{
-    sums.len()
-}
-
-/// Adds the contributions of the trees of the numbers from `start` to `stop - 1` to the sums, or tells the least of these
-/// numbers that is bad; the sums are as before then. It takes no memory.
+/// Adds the contributions of the trees of the numbers from `start` to `stop - 1` to the sums, or returns the least of
+/// these numbers that is bad; the sums are as before then. It takes no memory.
 fn add_plainly(problem: &Problem, sums: &mut [u64; 64], start: u64, stop: u64) -> Option<u64>
     requires order { start < stop }
     requires within { stop ≤ count_of (problem_view problem.now) }

@@ -9,8 +9,8 @@ ghost use Rattle.table_sum.specs.Sums.{problem_of};
 
 use table_sum::TableSum;
 
-/// The trees of the numbers from `first` to `end - 1` of a problem with its table, at most 65,536, cut into blocks of 64
-/// numbers of which the last may be shorter.
+/// The trees of the numbers from `first` to `end - 1` of a problem with its table, at most 65,536, cut into blocks of
+/// 64 numbers of which the last may be shorter.
 #[derive(Drop)]
 pub struct LocusJob<'a> {
     sum: &'a TableSum<'a>,

@@ -13,10 +13,10 @@ use factor_table::FactorSeat;
 pub struct PartSum {
     /// The seat. It keeps what it knows when the part forgets its blocks.
     pub seat: FactorSeat,
-    /// The residues of the sums, integral by integral and within one integral modulus by modulus. They mean nothing where
+    /// The residues of the sums, integral by integral and within one integral modulus by modulus. They mean nothing if
     /// a block had a bad number, or was passed over.
     pub sums: [u64; 64],
-    /// The least bad number that was told, or 2^64 - 1.
+    /// The least bad number that was found, or 2^64 - 1 if none was.
     pub least: u64,
 }
 

@@ -9,8 +9,8 @@ ghost use Rattle.sum_job.specs.Parts.{AreReduced, IsReadyFor, sum_at};
 use crate::part::PartSum;
 use problem::Problem;
 
-/// Adds residues to others, one for each integral and modulus of a problem, modulo their moduli. Both rows stand integral
-/// by integral, and within one integral modulus by modulus. What stands past them stays. It takes no memory.
+/// Adds residues to others, one for each integral and modulus of a problem, modulo their moduli. Both rows stand
+/// integral by integral, and within one integral modulus by modulus. What stands past them stays. It takes no memory.
 pub fn add_residues(problem: &Problem, sums: &mut [u64], more: &[u64])
     requires sums_long { places_of (problem_view problem.now) ≤ length sums.old }
     requires more_long { places_of (problem_view problem.now) ≤ length more.now }
@@ -30,8 +30,8 @@ pub fn add_residues(problem: &Problem, sums: &mut [u64], more: &[u64])
     }
 }
 
-/// Adds the sums of some parts to residues, one for each integral and modulus of a problem, modulo their moduli. It takes no
-/// memory.
+/// Adds the sums of some parts to residues, one for each integral and modulus of a problem, modulo their moduli. It
+/// takes no memory.
 pub fn add_parts(problem: &Problem, residues: &mut [u64], parts: &[PartSum])
     requires long { places_of (problem_view problem.now) ≤ length residues.old }
     requires reduced { AreReduced (problem_view problem.now) residues.old }

@@ -7,4 +7,3 @@ pub mod EdgeLists
 pub mod ClassLaws
 pub mod ProblemLaws
 pub mod SumLaws
-pub mod Known

@@ -14,9 +14,10 @@ use Rattle.residue.specs.declared.class.Term.{Term}
 use Rattle.localisation.specs.Contribution.{contribution, partial_sum}
 use Rattle.localisation.specs.Agreement.{modulus_at, integral_at}
 use Rattle.localisation.proofs.Sums.{partial_sum-none, partial_sum-next}
+use Rattle.problem.specs.Rules.{ProblemView}
 use Rattle.problem.specs.declared.problem.Problem.{Problem}
 use Rattle.range_sum.specs.Totals.{AddsResidue}
-use Rattle.range_sum.proofs.Places.{integral_of_place}
+use Rattle.range_sum.proofs.SumIndices.{integral_of_place}
 use Rattle.range_sum.proofs.RangeLaws.{modulus_above}
 use Rattle.factor_table.specs.declared.table.FactorTable.{FactorTable}
 use Rattle.factor_table.specs.declared.table.FactorSeat.{FactorSeat}
@@ -66,7 +67,7 @@ one_tree_more p first k g old mid new from e before more place within =
     (sym (partial_sum-next p.setup p.shape first k terms from ∙ ap (λ t. plus sum (contribution p.setup terms t)) (sym e)))
     (adds_both m sum (contribution p.setup terms g) (slice_index old place) (slice_index mid place) (slice_index new place) (modulus_above p place) (before place within) (more place within))
 
--- sums below their moduli stay so, if those before a place grew and the others did not change
+-- sums below their moduli stay so, if those before an index grew and the others did not change
 pub still_below : (p : Problem) (fraction_of : List Term → Fraction) (end : ℕ) (old new : List ℕ) → AreBelow p old
     → ((q : ℕ) → q < end → AddsResidue (modulus_at p.moduli q) (fraction_of (integral_at p.moduli p.integrals q)) (slice_index old q) (slice_index new q))
     → ((q : ℕ) → end ≤ q → slice_index new q ≡ slice_index old q) → AreBelow p new
@@ -77,7 +78,7 @@ still_below p fraction_of end old new below added rest place within =
     (λ later. subst (λ x. x < modulus_at p.moduli place) (sym (rest place later)) (below place within))
     (cases_lt place end)
 
--- the sum at the place of an integral and a modulus
+-- the sum at the index of an integral and a modulus
 pub adds_here : (ws : List ℤ) (integrals : List (List Term)) (ms : List ℕ) (g : DecoratedTree) (i j place m old new x : ℕ) → place ≡ i * length ms + j → j < length ms
     → slice_index ms j ≡ m → IsResidue (slice_index ms j) (contribution ws (get_or integrals i []) g) x → new ≡ (old + x) % m
     → AddsResidue (modulus_at ms place) (contribution ws (integral_at ms integrals place) g) old new
@@ -98,10 +99,10 @@ below_next Q i before here k below =
 pub edges_later : (t : FactorTable) (old new : FactorSeat) (g : DecoratedTree) (m : ℕ) → IsLater t old new → KnowsEdges old t g m → KnowsEdges new t g m
 edges_later t old new g m h k = all_later t old new m (edge_keys g) h k
 
-pub tree_later : (p : Problem) (t : FactorTable) (old new : FactorSeat) (g : DecoratedTree) → IsLater t old new → KnowsTree p t old g → KnowsTree p t new g
+pub tree_later : (p : ProblemView) (t : FactorTable) (old new : FactorSeat) (g : DecoratedTree) → IsLater t old new → KnowsTree p t old g → KnowsTree p t new g
 tree_later p t old new g h k index below = edges_later t old new g index h (k index below)
 
-pub trees_next : (p : Problem) (t : FactorTable) (old new : FactorSeat) (g : DecoratedTree) (first k : ℕ) → IsLater t old new → g ≡ tree_of p.shape k
+pub trees_next : (p : ProblemView) (t : FactorTable) (old new : FactorSeat) (g : DecoratedTree) (first k : ℕ) → IsLater t old new → g ≡ tree_of p.shape k
     → KnowsTrees p t old first k → KnowsTree p t new g → KnowsTrees p t new first (k + 1)
 trees_next p t old new g first k h e before here q from below =
     ⊎_elim (λ earlier. tree_later p t old new (tree_of p.shape q) h (before q from earlier))

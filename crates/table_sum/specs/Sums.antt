@@ -7,6 +7,7 @@ use Rattle.residue.specs.declared.class.Term.{Term}
 use Rattle.localisation.specs.Agreement.{modulus_at, integral_at}
 use Rattle.problem.specs.declared.problem.Problem.{Problem}
 use Rattle.problem.specs.Problems.{view}
+use Rattle.problem.specs.Rules.{ProblemView}
 use Rattle.problem.specs.Sums.{places_of}
 use Rattle.range_sum.specs.Totals.{AddsResidue}
 use Rattle.factor_table.specs.declared.table.FactorTable.{FactorTable}
@@ -30,10 +31,10 @@ abbrev pub GrowBy : Problem → (List Term → Fraction) → List ℕ → List �
 GrowBy p fraction_of old new = (place : ℕ) → place < places_of (view p)
     → AddsResidue (modulus_at p.moduli place) (fraction_of (integral_at p.moduli p.integrals place)) (slice_index old place) (slice_index new place)
 
--- the seat knows the word of each edge of a tree for each modulus
-abbrev pub KnowsTree : Problem → FactorTable → FactorSeat → DecoratedTree → Type 0
+-- the seat knows the word of each edge of a tree, for each modulus
+abbrev pub KnowsTree : ProblemView → FactorTable → FactorSeat → DecoratedTree → Type 0
 KnowsTree p t s g = (index : ℕ) → index < length p.moduli → KnowsEdges s t g index
 
--- .. and of each tree of a number from first to stop - 1
-abbrev pub KnowsTrees : Problem → FactorTable → FactorSeat → ℕ → ℕ → Type 0
+-- the seat knows the word of each edge of the trees of the numbers from first to stop - 1, for each modulus
+abbrev pub KnowsTrees : ProblemView → FactorTable → FactorSeat → ℕ → ℕ → Type 0
 KnowsTrees p t s first stop = (k : ℕ) → first ≤ k → k < stop → KnowsTree p t s (tree_of p.shape k)

@@ -9,7 +9,7 @@ use residue::NoUnit;
 use tree_parts::TreeParts;
 
 impl TableSum<'_> {
-    ghost use Rattle.std.specs.Prelude.{◌≡◌, ℕ, ◌<◌, ◌≤◌, IsTrue, OnOk, OnErr, slice_index};
+    ghost use Rattle.std.specs.Prelude.{◌≡◌, ℕ, ◌<◌, ◌≤◌, IsTrue, OnOk, OnErr, length, slice_index};
     ghost use Rattle.decorated_tree.specs.Trees.{tree_view, is_tree_of};
     ghost use Rattle.localisation.specs.Contribution.{contribution, partial_sum};
     ghost use Rattle.localisation.specs.Agreement.{NoneBad};
@@ -20,8 +20,8 @@ impl TableSum<'_> {
     ghost use Rattle.table_sum.specs.Sums.{problem_of, table_of, AreBelow, GrowBy, KnowsTree, KnowsTrees};
 
     /// Adds the contributions of the trees of the numbers from `first` to `stop - 1` to the sums, which are integral by
-    /// integral and within one integral modulus by modulus. No tree costs a division, and no memory is taken. Afterwards
-    /// the seat knows the words of all edges of these trees for each modulus, whatever the answer is.
+    /// integral and within one integral modulus by modulus. No tree costs a division, and no memory is taken.
+    /// Afterwards the seat knows the words of all edges of these trees for each modulus, whatever the answer is.
     ///
     /// # Errors
     /// `NoUnit` if a word that is asked for is no unit. The sums are as they were, and it is not known whether a number
@@ -43,8 +43,9 @@ impl TableSum<'_> {
         ensures rest { OnOk result ((place : ℕ) → places_of (problem_view (problem_of self.now)) ≤ place
             → slice_index sums.new place ≡ slice_index sums.old place) }
         ensures refused { OnErr result (sums.new ≡ sums.old) }
+        ensures long { length sums.new ≡ 64 }
         ensures seat { IsLater (table_of self.now) seat.old seat.new }
-        ensures edges { KnowsTrees (problem_of self.now) (table_of self.now) seat.new first stop }
+        ensures edges { KnowsTrees (problem_view (problem_of self.now)) (table_of self.now) seat.new first stop }
     {
         let mut grown = *sums;
         self.add_trees(seat, first, stop, &mut grown)?;
@@ -69,7 +70,7 @@ impl TableSum<'_> {
         ensures rest { (place : ℕ) → places_of (problem_view (problem_of self.now)) ≤ place
             → slice_index sums.new place ≡ slice_index sums.old place }
         ensures seat { IsLater (table_of self.now) seat.old seat.new }
-        ensures edges { KnowsTrees (problem_of self.now) (table_of self.now) seat.new first stop }
+        ensures edges { KnowsTrees (problem_view (problem_of self.now)) (table_of self.now) seat.new first stop }
     {
         let mut every = true;
         let mut tree = self.problem.shape.tree(first);
@@ -100,7 +101,7 @@ impl TableSum<'_> {
         ensures rest { (place : ℕ) → places_of (problem_view (problem_of self.now)) ≤ place
             → slice_index sums.new place ≡ slice_index sums.old place }
         ensures seat { IsLater (table_of self.now) seat.old seat.new }
-        ensures edges { KnowsTree (problem_of self.now) (table_of self.now) seat.new (tree_view tree.now) }
+        ensures edges { KnowsTree (problem_view (problem_of self.now)) (table_of self.now) seat.new (tree_view tree.now) }
     {
         let parts = TreeParts::of(tree, self.problem.shape.r());
         let starts = self.starts(seat, &parts);

@@ -18,8 +18,8 @@ use factor_table::{FactorSeat, has_parts};
 use residue::{Class, NoUnit, Power, Term};
 use tree_parts::TreeParts;
 
-/// The residue of the value of a term at a tree: the coefficient times the product of the values of its classes, each to
-/// its power. The classes are in the table's list from the index `first` on.
+/// The residue of the value of a term at a tree: the coefficient times the product of the values of its classes, each
+/// to its power. The classes are in the table's list from the index `first` on.
 ///
 /// # Errors
 /// `NoUnit` if the word of a class at an edge or a vertex is no unit.

@@ -1,8 +1,8 @@
 //! The contribution of a decorated tree, and sums over blocks of trees, with the factors that a table shares.
 //!
-//! A tree's contribution is a product and a sum of factors of its edges, its vertices and its classes. Here each of them
-//! comes from words of a [`factor_table::FactorTable`]: no tree costs a division. A vertex of colour `c` with `s` edges
-//! and `t` marks has
+//! A tree's contribution is a product and a sum of factors of its edges, its vertices and its classes. Here each of
+//! them comes from words of a [`factor_table::FactorTable`]: no tree costs a division. A vertex of colour `c` with `s`
+//! edges and `t` marks has
 //!
 //! | Case | Factor |
 //! |---|---|

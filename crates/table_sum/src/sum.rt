@@ -75,7 +75,8 @@ impl TableSum<'_> {
     ghost use Rattle.table_sum.specs.Sums.{problem_of, table_of, KnowsTree};
 
     /// The residue of the contribution of a tree of the problem's shape to the integral at an index, modulo the modulus
-    /// at an index. Afterwards the seat knows the word of each edge of the tree for that modulus, whatever the answer is.
+    /// at an index. Afterwards the seat knows the word of each edge of the tree for that modulus, whatever the answer
+    /// is.
     ///
     /// # Errors
     /// `NoUnit` if a word that is asked for is no unit. The tree may have a contribution all the same.
@@ -135,7 +136,7 @@ impl TableSum<'_> {
             → MayGive (slice_index (problem_of self.now).moduli index)
             (tree_start (problem_of self.now).setup parts.now.tree) (answer_at result index) }
         ensures seat { IsLater (table_of self.now) seat.old seat.new }
-        ensures edges { KnowsTree (problem_of self.now) (table_of self.now) seat.new parts.now.tree }
+        ensures edges { KnowsTree (problem_view (problem_of self.now)) (table_of self.now) seat.new parts.now.tree }
     {
         let mut starts = [Err(NoUnit); 8];
         for modulus in 0..self.problem.moduli.len() {
@@ -144,8 +145,8 @@ impl TableSum<'_> {
         starts
     }
 
-    /// The residue of the contribution of a tree to the integral at an index, modulo the modulus at an index. The residue
-    /// of the tree's edges over `n!` is given, if it has one, and the index of the integral's first class.
+    /// The residue of the contribution of a tree to the integral at an index, modulo the modulus at an index. The
+    /// residue of the tree's edges over `n!` is given, if it has one, and the index of the integral's first class.
     pub(crate) fn residue(
         &self,
         seat: &mut FactorSeat,

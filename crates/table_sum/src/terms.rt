@@ -17,8 +17,8 @@ use factor_table::FactorSeat;
 use residue::{NoUnit, Term};
 use tree_parts::TreeParts;
 
-/// The residue of the sum over the terms of an integral of the factors of all vertices under the term's exponents, times
-/// the term's value. The classes of the terms are in the table's list from the index `first` on.
+/// The residue of the sum over the terms of an integral of the factors of all vertices under the term's exponents,
+/// times the term's value. The classes of the terms are in the table's list from the index `first` on.
 ///
 /// # Errors
 /// `NoUnit` if a word that is asked for is no unit.

@@ -19,7 +19,8 @@ use residue::{NoUnit, Term};
 use tree_parts::TreeParts;
 
 /// The residue of what the contribution of a tree to any integral has as a factor: the product of the factors of its
-/// edges, over `n!` if the tree has `n` vertices. Afterwards the seat knows the word of each edge, whatever the answer is.
+/// edges, over `n!` if the tree has `n` vertices. Afterwards the seat knows the word of each edge, whatever the answer
+/// is.
 ///
 /// # Errors
 /// `NoUnit` if the word of an edge is no unit, or `n!` is none.

@@ -49,7 +49,8 @@ ends_all : (n : ℕ) (es : List (ℕ × ℕ)) → EndsAmong (below n) es → All
 ends_all n [] h = All-nil (λ e. (e.0 < n) × (e.1 < n))
 ends_all n (e ∷ es) h =
     All-cons (λ x. (x.0 < n) × (x.1 < n)) e es
-    (below_by e.0 n (sym (member-below e.0 n) ∙ h.0), below_by e.1 n (sym (member-below e.1 n) ∙ h.1)) (ends_all n es h.2)
+    (below_by e.0 n (sym (member-below e.0 n) ∙ h.0), below_by e.1 n (sym (member-below e.1 n) ∙ h.1))
+    (ends_all n es h.2)
 
 pub decorated_sound : (s : TreeShape) (g : DecoratedTree) → is_decorated s g ≡ true → IsSound s g
 decorated_sound s g h =
@@ -79,7 +80,9 @@ decorated_sound s g h =
       marks = d.marks;
       marks_within = λ k v lt. below_by (get_or g.marks k v) n (AllPass-from_list_all (λ x. nat_lt x n) g.marks d.marks_within k v lt);
       some_end = λ v lt.
-          let some = connected_degree (below n) g.edges v t.different (omega (arith, least, below_n)) t.connected (member-below v n ∙ is_below v n lt) in
+          let some =
+          connected_degree (below n) g.edges v t.different (omega (arith, least, below_n)) t.connected
+          (member-below v n ∙ is_below v n lt) in
           let counted = ends_counted v g.colours g.edges g.degrees d.degrees in
           omega (arith, some, counted);
     }
@@ -104,13 +107,16 @@ edges_each s g h =
       degree_within = degree.1;
     })
 
-pub ends_each : (s : TreeShape) (g : DecoratedTree) (v : ℕ) (ps : List (ℕ × ℕ)) → IsSound s g → ends_of ps ≡ ends_at g v → All (IsEndOf s (colour_of g v)) ps
-ends_each s g v ps h is = all_ends P ps (subst (All P) (sym is) (all_among P v g.colours g.edges g.degrees h.degree_each first second))
+pub ends_each : (s : TreeShape) (g : DecoratedTree) (v : ℕ) (ps : List (ℕ × ℕ)) → IsSound s g → ends_of ps ≡ ends_at g v
+    → All (IsEndOf s (colour_of g v)) ps
+ends_each s g v ps h is =
+    all_ends P ps (subst (All P) (sym is) (all_among P v g.colours g.edges g.degrees h.degree_each first second))
   where
     P : End → Type 0
     P e = IsEndOf s (colour_of g v) (e.colour, e.degree)
 
-    first : (k : ℕ) → k < length g.edges → (get_or g.edges k (0, 0)).0 ≡ v → P (record { colour = slice_index g.colours (get_or g.edges k (0, 0)).1; degree = get_or g.degrees k 0 })
+    first : (k : ℕ) → k < length g.edges → (get_or g.edges k (0, 0)).0 ≡ v
+        → P (record { colour = slice_index g.colours (get_or g.edges k (0, 0)).1; degree = get_or g.degrees k 0 })
     first k lt at =
         let ends = h.ends_within k (0, 0) lt in
         let long = h.colours in
@@ -124,7 +130,8 @@ ends_each s g v ps h is = all_ends P ps (subst (All P) (sym is) (all_among P v g
           degree_within = degree.1;
         }
 
-    second : (k : ℕ) → k < length g.edges → (get_or g.edges k (0, 0)).1 ≡ v → P (record { colour = slice_index g.colours (get_or g.edges k (0, 0)).0; degree = get_or g.degrees k 0 })
+    second : (k : ℕ) → k < length g.edges → (get_or g.edges k (0, 0)).1 ≡ v
+        → P (record { colour = slice_index g.colours (get_or g.edges k (0, 0)).0; degree = get_or g.degrees k 0 })
     second k lt at =
         let ends = h.ends_within k (0, 0) lt in
         let long = h.colours in
@@ -138,14 +145,16 @@ ends_each s g v ps h is = all_ends P ps (subst (All P) (sym is) (all_among P v g
           degree_within = degree.1;
         }
 
-pub ends_some : (s : TreeShape) (g : DecoratedTree) (v : ℕ) (ps : List (ℕ × ℕ)) → IsSound s g → v < g.vertices → ends_of ps ≡ ends_at g v → 1 ≤ length ps
+pub ends_some : (s : TreeShape) (g : DecoratedTree) (v : ℕ) (ps : List (ℕ × ℕ)) → IsSound s g → v < g.vertices
+    → ends_of ps ≡ ends_at g v → 1 ≤ length ps
 ends_some s g v ps h lt is =
     let some = h.some_end v lt in
     let same = ap length is in
     let long = length-ends_of ps in
     omega (arith, some, same, long)
 
-pub ends_most : (s : TreeShape) (g : DecoratedTree) (v : ℕ) (ps : List (ℕ × ℕ)) → IsSound s g → ends_of ps ≡ ends_at g v → length ps ≤ s.degree
+pub ends_most : (s : TreeShape) (g : DecoratedTree) (v : ℕ) (ps : List (ℕ × ℕ)) → IsSound s g → ends_of ps ≡ ends_at g v
+    → length ps ≤ s.degree
 ends_most s g v ps h is =
     let few = ends_few v g.colours g.edges g.degrees in
     let same = ap length is in

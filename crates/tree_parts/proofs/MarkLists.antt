@@ -8,16 +8,20 @@ use Rattle.tree_parts.proofs.EndLists.{pushed_at, pushed_here, pushed_elsewhere,
 
 counted-suc : (a n : ℕ) → counted_from a (suc n) ≡ counted_from a n ++ (a + n) ∷ []
 counted-suc a zero = ap (λ x. x ∷ []) (sym (add-zero a))
-counted-suc a (suc n) = ap (λ xs. a ∷ xs) (counted-suc (suc a) n ∙ ap (λ x. counted_from (suc a) n ++ x ∷ []) (let e : suc a + n ≡ a + suc n = omega arith in e))
+counted-suc a (suc n) =
+    ap (λ xs. a ∷ xs)
+    (counted-suc (suc a) n ∙ ap (λ x. counted_from (suc a) n ++ x ∷ []) (let e : suc a + n ≡ a + suc n = omega arith in e))
 
 filter-push : (p : ℕ → Bool) (xs : List ℕ) (x : ℕ) → filter p (xs ++ x ∷ []) ≡ filter p xs ++ (cond (p x) (x ∷ []) [])
 filter-push p [] x = by_test (p x)
   where
     by_test : (b : Bool) → cond b (x ∷ []) [] ≡ cond b (x ∷ []) []
     by_test b = refl
-filter-push p (y ∷ xs) x = by_test (p y) y (filter p xs) (cond (p x) (x ∷ []) []) (filter p (xs ++ x ∷ [])) (filter-push p xs x)
+filter-push p (y ∷ xs) x =
+    by_test (p y) y (filter p xs) (cond (p x) (x ∷ []) []) (filter p (xs ++ x ∷ [])) (filter-push p xs x)
   where
-    by_test : (b : Bool) (y : ℕ) (ys zs whole : List ℕ) → whole ≡ ys ++ zs → cond b (y ∷ whole) whole ≡ cond b (y ∷ ys) ys ++ zs
+    by_test : (b : Bool) (y : ℕ) (ys zs whole : List ℕ) → whole ≡ ys ++ zs
+        → cond b (y ∷ whole) whole ≡ cond b (y ∷ ys) ys ++ zs
     by_test true y ys zs whole e = ap (λ xs. y ∷ xs) e
     by_test false y ys zs whole e = e
 
@@ -31,7 +35,8 @@ found vertices v i h = let e : 1 + i - 1 ≡ i = omega arith in rw e (grind (ari
 not_found : (vertices : List ℕ) (v i : ℕ) → slice_index vertices i ≢ v → is_at vertices v (1 + i) ≡ false
 not_found vertices v i h = let e : 1 + i - 1 ≡ i = omega arith in rw e (grind (arith, nat_tests))
 
-one_more : (p : ℕ → Bool) (i : ℕ) → filter p (counted_from 1 (i + 1)) ≡ filter p (counted_from 1 i) ++ (cond (p (1 + i)) ((1 + i) ∷ []) [])
+one_more : (p : ℕ → Bool) (i : ℕ)
+    → filter p (counted_from 1 (i + 1)) ≡ filter p (counted_from 1 i) ++ (cond (p (1 + i)) ((1 + i) ∷ []) [])
 one_more p i = rw add-one (ap (filter p) (counted-suc 1 i) ∙ filter-push p (counted_from 1 i) (1 + i))
 
 -- a mark at the vertex comes after those before it
@@ -50,8 +55,9 @@ mark_passed vertices v i h =
     ∙ ap (λ b. filter (is_at vertices v) (counted_from 1 i) ++ cond b ((1 + i) ∷ []) []) (not_found vertices v i h)
     ∙ append-nil (filter (is_at vertices v) (counted_from 1 i))
 
--- ---- the marks at each vertex, if the mark i + 1 is put where it is
-pub mark_short : (rows new : List (List ℕ)) (u v i : ℕ) (x : ℕ) → u < length rows → new ≡ pushed_at rows u x → length (get_or rows v []) ≤ i → length (get_or new v []) ≤ i + 1
+-- ---- the marks at each vertex, after the mark i + 1 was put at its vertex
+pub mark_short : (rows new : List (List ℕ)) (u v i : ℕ) (x : ℕ) → u < length rows → new ≡ pushed_at rows u x
+    → length (get_or rows v []) ≤ i → length (get_or new v []) ≤ i + 1
 mark_short rows new u v i x lt is h =
     subst (λ r. length (get_or r v []) ≤ i + 1) (sym is)
     (⊎_elim (λ e. subst (λ z. length (get_or rows z []) ≤ i → length (get_or (pushed_at rows u x) z []) ≤ i + 1) (sym e) (λ k. rw (pushed_here rows u x lt) (omega (arith, k, length_push (get_or rows u []) x))) h)

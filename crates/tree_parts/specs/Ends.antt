@@ -7,8 +7,8 @@ use Rattle.localisation.specs.VertexFraction.{End}
 abbrev pub ends_of : List (ℕ × ℕ) → List End
 ends_of ps = map (λ p. record { colour = p.0; degree = p.1 }) ps
 
--- at a vertex of colour c: the neighbour's colour is another one and at most the rank, and the degree is from 1 to that of the
--- shape
+-- at a vertex of colour c: the neighbour's colour is another one and at most the rank, and the degree is from 1 to that
+-- of the shape
 pub record IsEndOf (s : TreeShape) (c : ℕ) (e : ℕ × ℕ) : Type 0 where
   pub colour : e.0 ≤ s.rank
   pub different : e.0 ≢ c

@@ -18,11 +18,11 @@ pub struct TreeParts {
     tree: Tree,
     rank: u8,
     degree: u8,
-    /// The edges, n - 1 places of 10.
+    /// The edges, n - 1 entries of 10.
     edges: [ColouredEdge; 10],
-    /// The ends at each vertex, n places of 11.
+    /// The ends at each vertex, n entries of 11.
     ends: [Ends; 11],
-    /// The marks at each vertex, n places of 11.
+    /// The marks at each vertex, n entries of 11.
     marks: [Marks; 11],
 }
 

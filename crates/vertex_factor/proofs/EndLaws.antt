@@ -14,7 +14,8 @@ one_more x y z = sym (*ℤ_assoc x y z)
 
 pub degrees-push : (es : List End) (e : End) → product_of_degrees (es ++ e ∷ []) ≡ product_of_degrees es *ℤ pos e.degree
 degrees-push [] e = *ℤ_comm (pos e.degree) (pos 1)
-degrees-push (x ∷ es) e = ap (λ z. pos x.degree *ℤ z) (degrees-push es e) ∙ one_more (pos x.degree) (product_of_degrees es) (pos e.degree)
+degrees-push (x ∷ es) e =
+    ap (λ z. pos x.degree *ℤ z) (degrees-push es e) ∙ one_more (pos x.degree) (product_of_degrees es) (pos e.degree)
 
 pub differences-push : (ws : List ℤ) (c : ℕ) (es : List End) (e : End)
     → product_of_differences ws c (es ++ e ∷ []) ≡ product_of_differences ws c es *ℤ difference ws c e
@@ -48,14 +49,17 @@ swapped : (a d p : ℤ) → a *ℤ (d *ℤ p) ≡ d *ℤ (a *ℤ p)
 swapped a d p = sym (*ℤ_assoc a d p) ∙ ap (λ z. z *ℤ p) (*ℤ_comm a d) ∙ *ℤ_assoc d a p
 
 pub crossed-cons : (ws : List ℤ) (c : ℕ) (e : End) (es : List End)
-    → crossed_sum ws c (e ∷ es) ≡ pos e.degree *ℤ product_of_differences ws c es +ℤ difference ws c e *ℤ crossed_sum ws c es
+    → crossed_sum ws c (e ∷ es)
+    ≡ pos e.degree *ℤ product_of_differences ws c es +ℤ difference ws c e *ℤ crossed_sum ws c es
 crossed-cons ws c e es =
     total-first (length es) (λ u. pos (degree_at (e ∷ es) u) *ℤ product_of_differences ws c (remove (e ∷ es) u))
     ∙ ap (λ z. pos e.degree *ℤ product_of_differences ws c es +ℤ z)
     (total-same (below (length es)) _ _ (λ u. swapped (pos (degree_at es u)) (difference ws c e) (product_of_differences ws c (remove es u)))
-    ∙ total-times (below (length es)) (difference ws c e) (λ u. pos (degree_at es u) *ℤ product_of_differences ws c (remove es u)))
+    ∙ total-times (below (length es)) (difference ws c e)
+    (λ u. pos (degree_at es u) *ℤ product_of_differences ws c (remove es u)))
 
-regrouped : (ax b dx cr de ae : ℤ) → ax *ℤ (b *ℤ de) +ℤ dx *ℤ (cr *ℤ de +ℤ ae *ℤ b) ≡ (ax *ℤ b +ℤ dx *ℤ cr) *ℤ de +ℤ ae *ℤ (dx *ℤ b)
+regrouped : (ax b dx cr de ae : ℤ)
+    → ax *ℤ (b *ℤ de) +ℤ dx *ℤ (cr *ℤ de +ℤ ae *ℤ b) ≡ (ax *ℤ b +ℤ dx *ℤ cr) *ℤ de +ℤ ae *ℤ (dx *ℤ b)
 regrouped ax b dx cr de ae =
     let first = one_more ax b de in
     let spread = *ℤ-+ℤ dx (cr *ℤ de) (ae *ℤ b) in
@@ -65,7 +69,8 @@ regrouped ax b dx cr de ae =
     omega (arith, ints, first, spread, second, third, whole)
 
 pub crossed-push : (ws : List ℤ) (c : ℕ) (es : List End) (e : End)
-    → crossed_sum ws c (es ++ e ∷ []) ≡ crossed_sum ws c es *ℤ difference ws c e +ℤ pos e.degree *ℤ product_of_differences ws c es
+    → crossed_sum ws c (es ++ e ∷ [])
+    ≡ crossed_sum ws c es *ℤ difference ws c e +ℤ pos e.degree *ℤ product_of_differences ws c es
 crossed-push ws c [] e =
     let one = crossed-cons ws c e [] in
     let none = *ℤ_comm (pos 0) (difference ws c e) in
@@ -73,5 +78,7 @@ crossed-push ws c [] e =
 crossed-push ws c (x ∷ es) e =
     crossed-cons ws c x (es ++ e ∷ [])
     ∙ ap₂ (λ y z. pos x.degree *ℤ y +ℤ difference ws c x *ℤ z) (differences-push ws c es e) (crossed-push ws c es e)
-    ∙ regrouped (pos x.degree) (product_of_differences ws c es) (difference ws c x) (crossed_sum ws c es) (difference ws c e) (pos e.degree)
-    ∙ ap (λ z. z *ℤ difference ws c e +ℤ pos e.degree *ℤ (difference ws c x *ℤ product_of_differences ws c es)) (sym (crossed-cons ws c x es))
+    ∙ regrouped (pos x.degree) (product_of_differences ws c es) (difference ws c x) (crossed_sum ws c es)
+    (difference ws c e) (pos e.degree)
+    ∙ ap (λ z. z *ℤ difference ws c e +ℤ pos e.degree *ℤ (difference ws c x *ℤ product_of_differences ws c es))
+    (sym (crossed-cons ws c x es))

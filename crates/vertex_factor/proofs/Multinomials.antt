@@ -16,10 +16,13 @@ product_of-push (x ∷ xs) y = ap (λ z. x * z) (product_of-push xs y) ∙ (let 
 
 pub one_more_factorial : (ks : List ℕ) (i : ℕ) → i < length ks
     → product_of (map factorial (take (i + 1) ks)) ≡ product_of (map factorial (take i ks)) * factorial (get_or ks i 0)
-one_more_factorial ks i h = ap product_of (map_more factorial ks i 0 h) ∙ product_of-push (map factorial (take i ks)) (factorial (get_or ks i 0))
+one_more_factorial ks i h =
+    ap product_of (map_more factorial ks i 0 h)
+    ∙ product_of-push (map factorial (take i ks)) (factorial (get_or ks i 0))
 
 -- the product of the factorials so far is at most the factorial of the sum so far
-pub bounded_more : (ks : List ℕ) (i p : ℕ) → i < length ks → p ≤ factorial (sum (take i ks)) → p * factorial (get_or ks i 0) ≤ factorial (sum (take (i + 1) ks))
+pub bounded_more : (ks : List ℕ) (i p : ℕ) → i < length ks → p ≤ factorial (sum (take i ks))
+    → p * factorial (get_or ks i 0) ≤ factorial (sum (take (i + 1) ks))
 bounded_more ks i p h below =
     let one = mul-le-mul_right (factorial (get_or ks i 0)) below in
     let two = factorial-add (sum (take i ks)) (get_or ks i 0) in
@@ -38,7 +41,8 @@ pub positive_product : (p f : ℕ) → 1 ≤ p → 1 ≤ f → 1 ≤ p * f
 positive_product p f h k = omega (arith, mul-le-mul_left p k)
 
 -- one more factorial fits below that of the sum
-pub product_fits : (ks : List ℕ) (i p f : ℕ) → i < length ks → sum ks ≤ 19 → p ≤ factorial (sum (take i ks)) → f ≡ factorial (get_or ks i 0) → p * f < 2 ^ 64
+pub product_fits : (ks : List ℕ) (i p f : ℕ) → i < length ks → sum ks ≤ 19 → p ≤ factorial (sum (take i ks))
+    → f ≡ factorial (get_or ks i 0) → p * f < 2 ^ 64
 product_fits ks i p f h most below e =
     let some = sum_by-take-le (λ x. x) ks (i + 1) in
     fits (sum (take (i + 1) ks)) (p * f) (omega arith) (rw e (bounded_more ks i p h below))

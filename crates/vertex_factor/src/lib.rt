@@ -1,9 +1,9 @@
 //! The factors of vertices.
 //!
 //! A vertex of colour `c` has `s` edges and `t` marks. Its edge `u` has the degree `a_u` and goes to a vertex of colour
-//! `c(u)`; `D_u = L_c - L_c(u)` is the difference of the weights. `T` is the product of the differences `L_c - L_j` over
-//! the colours `j` other than `c`, `B` the product of the `D_u`, and `C` the sum over `u` of `a_u` times the product of
-//! the differences of the other edges. Without psi classes the fraction of the vertex is
+//! `c(u)`; `D_u = L_c - L_c(u)` is the difference of the weights. `T` is the product of the differences `L_c - L_j`
+//! over the colours `j` other than `c`, `B` the product of the `D_u`, and `C` the sum over `u` of `a_u` times the
+//! product of the differences of the other edges. Without psi classes the fraction of the vertex is
 //!
 //! | Case | Top | Bottom |
 //! |---|---|---|

@@ -11,8 +11,8 @@ ghost use Rattle.vertex_factor.specs.Ends.{end, ends_of, IsEndAt, flag_fraction}
 use crate::sums::{difference, sums_over};
 use residue::{Modulus, NoUnit, Ratio, Setup};
 
-/// The residue of the product `T` of the differences of the weight of the colour `c` to those of all other colours,
-/// where `c` is at most the rank.
+/// The residue of the product `T` of the differences of the weight of the colour `c` to those of all other colours.
+/// `c` is at most the rank.
 pub fn tangent(setup: &Setup, c: u8, modulus: &Modulus) -> u64
     requires { c < length setup.now }
     ensures { Leaves modulus.now (tangent_product setup.now c) result }
@@ -24,7 +24,7 @@ pub fn tangent(setup: &Setup, c: u8, modulus: &Modulus) -> u64
     product
 }
 
-/// The residue of the difference of the weights of `c` and `j`, or 1 where they are one colour.
+/// The residue of the difference of the weights of `c` and `j`, or 1 if they are one colour.
 fn tangent_term(setup: &Setup, c: u8, j: u8, modulus: &Modulus) -> u64
     requires c_within { c < length setup.now }
     requires j_within { j < length setup.now }
@@ -37,11 +37,11 @@ fn tangent_term(setup: &Setup, c: u8, j: u8, modulus: &Modulus) -> u64
     }
 }
 
-/// The residue of the degree `a`, from 1 to 10, over the difference of the weights of two different colours `c` and `u`,
-/// each at most the rank.
+/// The residue of the degree `a`, from 1 to 10, over the difference of the weights of two different colours `c` and
+/// `u`, each at most the rank.
 ///
 /// # Errors
-/// `NoUnit` exactly where the difference and the modulus have a common divisor above 1.
+/// `NoUnit` exactly if the difference and the modulus have a common divisor above 1.
 pub fn flag(setup: &Setup, c: u8, u: u8, a: u8, modulus: &Modulus) -> Result<u64, NoUnit>
     requires c_within { c < length setup.now }
     requires u_within { u < length setup.now }
@@ -58,7 +58,7 @@ pub fn flag(setup: &Setup, c: u8, u: u8, a: u8, modulus: &Modulus) -> Result<u64
 /// are from 1 to 10.
 ///
 /// # Errors
-/// `NoUnit` exactly where the bottom and the modulus have a common divisor above 1.
+/// `NoUnit` exactly if the bottom and the modulus have a common divisor above 1.
 pub fn pair(
     setup: &Setup,
     c: u8,
@@ -82,7 +82,7 @@ pub fn pair(
 /// 10. The colours are at most the rank, and there are at most 12 marks.
 ///
 /// # Errors
-/// `NoUnit` exactly where the bottom and the modulus have a common divisor above 1.
+/// `NoUnit` exactly if the bottom and the modulus have a common divisor above 1.
 pub fn vertex(
     setup: &Setup,
     c: u8,
@@ -100,8 +100,8 @@ pub fn vertex(
     vertex_ratio(setup, c, ends, marks, modulus).residue(modulus)
 }
 
-/// The residues of the top and the bottom of the same factor, without a division. A neighbour may have any colour at most
-/// the rank, and a degree may be any.
+/// The residues of the top and the bottom of the same factor, without a division. A neighbour may have any colour at
+/// most the rank, and a degree may be any.
 pub fn vertex_ratio(setup: &Setup, c: u8, ends: &[(u8, u8)], marks: u8, modulus: &Modulus) -> Ratio
     requires c_within { c < length setup.now }
     requires ends_some { 1 ≤ length ends.now }

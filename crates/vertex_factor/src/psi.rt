@@ -19,7 +19,7 @@ use residue::{Modulus, NoUnit, Ratio, Setup};
 /// 10. The colours are at most the rank, and there are at most 12 exponents, each at most 151.
 ///
 /// # Errors
-/// `NoUnit` exactly where the bottom and the modulus have a common divisor above 1.
+/// `NoUnit` exactly if the bottom and the modulus have a common divisor above 1.
 pub fn vertex_psi(
     setup: &Setup,
     c: u8,
@@ -38,8 +38,8 @@ pub fn vertex_psi(
     vertex_psi_ratio(setup, c, ends, exponents, modulus).residue(modulus)
 }
 
-/// The residues of the top and the bottom of the same factor, without a division. A neighbour may have any colour at most
-/// the rank, and a degree and an exponent may be any.
+/// The residues of the top and the bottom of the same factor, without a division. A neighbour may have any colour at
+/// most the rank, and a degree and an exponent may be any.
 pub fn vertex_psi_ratio(
     setup: &Setup,
     c: u8,

@@ -2,4 +2,3 @@ pub mod Loops
 pub mod Exact
 pub mod Ends
 pub mod Growth
-pub mod Sums

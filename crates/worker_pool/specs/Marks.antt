@@ -4,7 +4,7 @@ use Rattle.std.specs.Prelude.{Option, Some, None}
 use Rattle.std.proofs.lemmas.Bool.Decides.{nat_tests}
 use Rattle.claim_table.specs.Counts.{nothing_bad}
 
--- the bad number, where there is one
+-- the bad number, if there is one
 abbrev pub mark_of : ℕ → Option ℕ
 mark_of number = cond (ltb number nothing_bad) (Some number) None
 

@@ -47,7 +47,7 @@ pub record IsLoop {P : Type 0} (least_bad : ℕ → Option ℕ) (stands : P → 
   pub grown : (l : List (ℕ × ℕ)) → stands part l → stands part_after (l ++ pairs)
   pub fits : All (λ p. p.1 ≤ nothing_bad) pairs
 
--- each worker's loop, at its own place
+-- each worker's loop, at its own index
 abbrev pub AreLoops : {S P : Type 0} → (ℕ → Option ℕ) → (P → List (ℕ × ℕ) → Type 0) → (S → Record) → List S
     → List P → List S → List P → Type 0
 AreLoops {S} {P} least_bad stands record_of seats parts seats_after parts_after = (worker : ℕ) (s : S) (p : P)
@@ -80,7 +80,7 @@ pub record IsCleanRound {P : Type 0} (stands : P → List (ℕ × ℕ) → Type 
       → stands (slice_index_or parts worker p) l
       → stands (slice_index_or parts_after worker p) (l ++ all_clean (slice_index_or blocks worker []))
 
--- the number is the least bad number of these blocks, or 2^64 - 1 where they have none
+-- the number is the least bad number of these blocks, or 2^64 - 1 if they have none
 pub record IsLeastBad (least_bad : ℕ → Option ℕ) (blocks number : ℕ) : Type 0 where
   pub none_less : (block bad : ℕ) → block < blocks → least_bad block ≡ Some bad → number ≤ bad
   pub found : number < nothing_bad → (block : ℕ) × (block < blocks) × (least_bad block ≡ Some number)

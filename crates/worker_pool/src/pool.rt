@@ -57,7 +57,7 @@ pub fn work_loop<J: Job, G: Gate, C: Claimer>(
     }
 }
 
-// Reports a bad number, where there is one.
+// Reports a bad number, if there is one.
 fn report<C: Claimer>(seat: &mut C, board: &C::Board, bad: Option<u64>)
     requires seat { C.sits_at seat.old board.now × C.is_free seat.old }
     requires bad { IfSome bad (λ number. number < 2 ^ 64 - 1) }
@@ -164,14 +164,14 @@ fn round_of<R: Threads + Sync, J: Job, G: Gate, C: Claimer + Send>(
 /// A round: all blocks of the job, each worked exactly once, by as many workers as there are
 /// parts, from 1 to 64. The job has this number of blocks, from 1 to 1,024.
 ///
-/// The loops of the workers run beside each other, by fork and join; where no thread can be made,
+/// The loops of the workers run beside each other, by fork and join; if no thread can be made,
 /// the caller runs them one after another. Each share is at most 2^62, and grows by the number of
 /// blocks that its worker owns. The least bad number is exact, although workers pass over numbers
 /// above what they saw.
 ///
 /// # Errors
 ///
-/// `NoMemory` where there is no memory for the claims. It comes before the first loop, and the
+/// `NoMemory` if there is no memory for the claims. It comes before the first loop, and the
 /// parts and shares are as before.
 pub fn run_round<R: Threads + Sync, J: Job, G: Gate>(
     rt: &R,

@@ -9,7 +9,7 @@ use std::marker::Model;
 /// the list of these numbers, of which there are at most 64.
 ///
 /// It is made by [`Shares::new`] alone, cannot be cloned, and only `run_round` raises a share. So
-/// shares tell how many blocks were really worked.
+/// shares are the numbers of blocks that were really worked.
 #[derive(Debug, Drop)]
 pub struct Shares {
     counts: [u64; 64],
@@ -52,7 +52,7 @@ impl Shares {
         self.workers == 0
     }
 
-    /// The share of the worker at this place.
+    /// The share of the worker with this index.
     pub fn get(&self, place: usize) -> u64
         requires { place < length self.now }
         ensures { result ≡ slice_index self.now place }

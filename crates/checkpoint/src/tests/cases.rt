@@ -1,7 +1,8 @@
 //! Texts between their parts, and what comes of each: the state that is read, or the refusal. The answers come from an
 //! independent program.
 
-// A problem of 172 bytes, which has 8 trees: the square of the first direct image of O(-1), on maps of degree 2 to the line.
+// A problem of 172 bytes, which has 8 trees: the square of the first direct image of O(-1), on maps of degree 2 to the
+// line.
 pub const SOURCE: &str =
     "version = 1\nrank = 1\ndegree = 2\nweights = [1, 3]\nmoduli = [101, 1001]\nnumerator_bound = 100\ndenominator_bound = 100\n\n[[term]]\nclasses = [{ kind = \"r1\", k = 1, power = 2 }]\n";
 

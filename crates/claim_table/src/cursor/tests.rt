@@ -11,7 +11,7 @@ use std::test::Fail;
 
 const NOTHING_BAD: u64 = u64::MAX;
 
-// The end of the round, where all seats are dry.
+// The end of the round, at which all seats are dry.
 fn finish(board: Cursor, seats: Vec<CursorSeat>) -> Option<Closed>
     requires all { length seats.items ≡ (board_plan board).workers }
     requires seated { All (λ s. IsSeatOf s board) seats.items }

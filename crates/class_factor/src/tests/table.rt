@@ -13,7 +13,7 @@ struct EdgeParts {
     class: Class,
     weights: &'static [i64],
     modulus: u64,
-    /// The colours of the two ends, the degree, and the residue, where the bottom is a unit.
+    /// The colours of the two ends, the degree, and the residue, if the bottom is a unit.
     rows: &'static [(u8, u8, u8, Option<u64>)],
 }
 
@@ -22,7 +22,7 @@ struct VertexParts {
     class: Class,
     weights: &'static [i64],
     modulus: u64,
-    /// The colour, the number of edges, and the residue, where the bottom is a unit.
+    /// The colour, the number of edges, and the residue, if the bottom is a unit.
     rows: &'static [(u8, u8, Option<u64>)],
 }
 
@@ -33,7 +33,7 @@ struct Values {
     shape: (u8, u8, u8),
     weights: &'static [i64],
     modulus: u64,
-    /// The number of the tree, and the residue, where the bottom is a unit.
+    /// The number of the tree, and the residue, if the bottom is a unit.
     rows: &'static [(u64, Option<u64>)],
 }
 

@@ -16,7 +16,7 @@ struct Contributions {
     /// The coefficient of each term, and its classes, each with its power.
     terms: &'static [(i64, &'static [(Class, u8)])],
     modulus: u64,
-    /// The number of the tree, and the residue, where the bottom is a unit.
+    /// The number of the tree, and the residue, if the bottom is a unit.
     rows: &'static [(u64, Option<u64>)],
 }
 

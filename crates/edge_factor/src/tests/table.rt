@@ -13,7 +13,7 @@ const MULTIPLE_OF_7: u64 = 4_611_686_018_427_387_893;
 struct Edges {
     weights: &'static [i64],
     modulus: u64,
-    /// The colours of the two ends, the degree, and the residue, where the bottom is a unit.
+    /// The colours of the two ends, the degree, and the residue, if the bottom is a unit.
     rows: &'static [(u8, u8, u8, Option<u64>)],
 }
 

@@ -1,5 +1,5 @@
-//! Cases of texts: each rule broken alone, each limit on both sides, and pairs of rules where the order decides. A line has the
-//! keys that are left out, the lines that are added, and what comes of it; `#` stands for none.
+//! Cases of texts: each rule broken alone, each limit on both sides, and pairs of rules where the order decides. A line
+//! has the keys that are left out, the lines that are added, and what comes of it; `#` stands for none.
 
 /// Texts of version 1 that are changed at the top.
 pub const AT_THE_TOP: &str = "# => # => read

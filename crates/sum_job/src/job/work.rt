@@ -22,7 +22,7 @@ use worker_pool::Job;
 const BLOCK: u64 = 64;
 
 impl<'a> LocusJob<'a> {
-    /// The job of the numbers from `first` to `end - 1`, at least one and at most 65,536, where `end` is at most the number
+    /// The job of the numbers from `first` to `end - 1`, at least one and at most 65,536; `end` is at most the number
     /// of trees of the problem. It takes no memory, and divides nothing.
     pub fn new(sum: &'a TableSum<'a>, first: u64, end: u64) -> LocusJob<'a>
         requires some { first < end }
@@ -91,8 +91,8 @@ impl Job for LocusJob<'_> {
         least_below (view job) block bad job.within (problem_of job.sum.now).rules.few_trees is };
 }
 
-/// The least bad number of a block as the answer to a worker that saw a number: none where it is above. The part notes what
-/// is answered.
+/// What a worker answers of the least bad number `least` of a block if it has seen the bad number `seen`: nothing if
+/// `least` is above `seen`, and otherwise `least`, which the part then keeps if it is less than those before.
 fn told(part: &mut PartSum, least: u64, seen: u64) -> Option<u64>
     ensures answer { result ≡ at_most seen (Some least) }
     ensures least { part.new.least ≡ least_with part.old.least result }

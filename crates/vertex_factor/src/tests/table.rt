@@ -16,7 +16,7 @@ struct Vertices {
     rows: &'static [Row],
 }
 
-/// The colour, the colour of the neighbour and the degree at each end, the exponent of each mark, and the residue, where
+/// The colour, the colour of the neighbour and the degree at each end, the exponent of each mark, and the residue, if
 /// the bottom is a unit.
 type Row = (u8, &'static [(u8, u8)], &'static [u8], Option<u64>);
 

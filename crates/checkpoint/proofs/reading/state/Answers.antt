@@ -1,3 +1,5 @@
+-- The problem is read first. Then each test in its order gives the refusal of its own cause, and the tests before it
+-- rule out those that come earlier.
 use Rattle.std.proofs.Common.{◌≡◌, ◌≢◌, ◌≤◌, ℕ, Ok, Err, ap, sym, ◌∙◌, length, arith}
 use Rattle.std.specs.List.{concat}
 use Rattle.std.proofs.lemmas.Result.{err_from_is_err_and}
@@ -14,13 +16,15 @@ returns-then-len-wanted-clause-value c =
     let p = problems.view c.in_ok-problem.problem in
     let n = numbers_count c.args.body.rows.items in
     let next : c.args.body.next ≤ count_of p = omega arith in
-    let other : length (numbers_of c.args.body.rows.items) ≢ length p.integrals = λ same. c.if-len-wanted.true (omega (arith, same, n)) in
+    let other : length (numbers_of c.args.body.rows.items) ≢ length p.integrals =
+        λ same. c.if-len-wanted.true (omega (arith, same, n)) in
     let k : c.len-then-len-wanted.result ≡ length (numbers_of c.args.body.rows.items) = omega (arith, n) in
     λ _. rw (c.shown_count.ensures, k, c.len-wanted.ensures) (at_lines (contents_of c.args.body) p c.in_ok-problem.ensures next other)
 
 pub returns-in_err-check_counts-clause-value : goal.returns-in_err-check_counts-clause-value
 returns-in_err-check_counts-clause-value c =
-    let r = err_from_is_err_and c.from_residual-in_err-check_counts.result c.from_residual-in_err-check_counts.ensures.1 in
+    let r =
+        err_from_is_err_and c.from_residual-in_err-check_counts.result c.from_residual-in_err-check_counts.ensures.1 in
     let p = problems.view c.in_ok-problem.problem in
     let n = numbers_count c.args.body.rows.items in
     let next : c.args.body.next ≤ count_of p = omega arith in
@@ -30,7 +34,8 @@ returns-in_err-check_counts-clause-value c =
 
 pub returns-in_err-check_residues-clause-value : goal.returns-in_err-check_residues-clause-value
 returns-in_err-check_residues-clause-value c =
-    let r = err_from_is_err_and c.from_residual-in_err-check_residues.result c.from_residual-in_err-check_residues.ensures.1 in
+    let r =
+        err_from_is_err_and c.from_residual-in_err-check_residues.result c.from_residual-in_err-check_residues.ensures.1 in
     let p = problems.view c.in_ok-problem.problem in
     let n = numbers_count c.args.body.rows.items in
     let next : c.args.body.next ≤ count_of p = omega arith in

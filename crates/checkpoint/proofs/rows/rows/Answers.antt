@@ -22,5 +22,6 @@ pub returns : goal.returns
 unfolding rows_at
 returns c =
     let none = sym c.is_empty.ensures ∙ c.loop-rest-test.false in
-    ends goes_on row_at c.args.text.now (numbers_of c.loop-rest.rows.items) c.loop-rest.rest.now c.loop-rest.invariant (gone _ none)
+    ends goes_on row_at c.args.text.now (numbers_of c.loop-rest.rows.items) c.loop-rest.rest.now c.loop-rest.invariant
+    (gone _ none)
     ∙ ap (λ (rest : List ℕ). Ok (numbers_of c.loop-rest.rows.items, rest)) (none_left _ none)

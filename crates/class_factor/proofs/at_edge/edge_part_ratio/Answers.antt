@@ -1,3 +1,4 @@
+-- One case for each kind of class: the code computes the top and the bottom as the definition writes them.
 use Rattle.std.proofs.Common.{pos}
 use Rattle.arithmetic.proofs.Modular.{Leaves-pow}
 use Rattle.class_factor.proofs.OtherClasses.{other_edge}

@@ -1,3 +1,4 @@
+-- One case for each kind of class: the code computes the top and the bottom as the definition writes them.
 use Rattle.std.proofs.Common.{◌≡◌, ℕ, pos, neg_ℤ, ◌-ℤ◌, arith}
 use Rattle.std.proofs.lemmas.Int.{ints}
 use Rattle.arithmetic.proofs.Modular.{Leaves-sub}

@@ -12,5 +12,6 @@ returns c =
     let number = c.args.term.now.coefficient in
     let as_read : to_z w64 (of_z w64 number) ≡ number = omega (arith, ints) in
     let coefficient = subst (λ z. Leaves m z c.of_i64.result) as_read c.of_i64.ensures in
-    subst (λ ps. IsRatioOf m (times (fraction number (pos 1)) (value_of_powers c.args.setup.now c.args.parts.now.tree ps)) c.times.result)
+    subst
+    (λ ps. IsRatioOf m (times (fraction number (pos 1)) (value_of_powers c.args.setup.now c.args.parts.now.tree ps)) c.times.result)
     c.as_slice.ensures (c.times.ensures _ _ (c.whole-coefficient.ensures _ coefficient) c.powers_ratio-classes.ensures)

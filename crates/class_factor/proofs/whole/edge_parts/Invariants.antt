@@ -7,4 +7,5 @@ use Rattle.class_factor.proofs.whole.edge_parts.Given as goal
 
 abbrev pub invariant-loop-edge : goal.invariant-loop-edge
 invariant-loop-edge l =
-    IsRatioOf l.modulus (product_of_fractions (map (of_edge (class_edge l.setup l.class)) (take l.edge-index l.edges))) l.product
+    IsRatioOf l.modulus
+    (product_of_fractions (map (of_edge (class_edge l.setup l.class)) (take l.edge-index l.edges))) l.product

@@ -5,4 +5,5 @@ use Rattle.class_factor.proofs.Values.{of_edge}
 use Rattle.class_factor.proofs.whole.incidence.Given as goal
 
 abbrev pub invariant-loop-edge : goal.invariant-loop-edge
-invariant-loop-edge l = Leaves l.modulus (total (map (of_edge (incidence_at l.setup l.q)) (take l.edge-index l.edges))) l.sum
+invariant-loop-edge l =
+    Leaves l.modulus (total (map (of_edge (incidence_at l.setup l.q)) (take l.edge-index l.edges))) l.sum

@@ -7,4 +7,5 @@ use Rattle.class_factor.proofs.whole.vertex_parts.Given as goal
 
 abbrev pub invariant-loop-vertex : goal.invariant-loop-vertex
 invariant-loop-vertex l =
-    IsRatioOf l.modulus (product_of_fractions (map (class_at_vertex l.setup l.class l.parts.tree) (below l.vertex))) l.product
+    IsRatioOf l.modulus
+    (product_of_fractions (map (class_at_vertex l.setup l.class l.parts.tree) (below l.vertex))) l.product

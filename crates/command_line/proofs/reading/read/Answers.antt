@@ -12,13 +12,16 @@ read-requires c = record { sound = ap is_sound_table c.program.ensures ∙ sound
 
 pub unreachable-requires : goal.unreachable-requires
 unreachable-requires c =
-    some c.args.commands (map string_bytes c.args.words.now) c.in_ok-given.given c.request.result (subst (λ t. IsGiven t (map string_bytes c.args.words.now) c.in_ok-given.given) c.program.ensures c.in_ok-given.ensures.answer) c.request.ensures c.in-None.is
+    some c.args.commands (map string_bytes c.args.words.now) c.in_ok-given.given c.request.result
+    (subst (λ t. IsGiven t (map string_bytes c.args.words.now) c.in_ok-given.given) c.program.ensures c.in_ok-given.ensures.answer) c.request.ensures c.in-None.is
 
 pub returns-clause-reading : goal.returns-clause-reading
 returns-clause-reading c =
-    asks c.args.commands (map string_bytes c.args.words.now) c.in_ok-given.given c.request.result c.in-Some.command (subst (λ t. IsGiven t (map string_bytes c.args.words.now) c.in_ok-given.given) c.program.ensures c.in_ok-given.ensures.answer) c.request.ensures c.in-Some.is
+    asks c.args.commands (map string_bytes c.args.words.now) c.in_ok-given.given c.request.result c.in-Some.command
+    (subst (λ t. IsGiven t (map string_bytes c.args.words.now) c.in_ok-given.given) c.program.ensures c.in_ok-given.ensures.answer) c.request.ensures c.in-Some.is
 
 pub returns-clause-within : goal.returns-clause-within
 returns-clause-within c =
     asked_within c.args.commands (map string_bytes c.args.words.now) (request_of c.in-Some.command)
-    (asks c.args.commands (map string_bytes c.args.words.now) c.in_ok-given.given c.request.result c.in-Some.command (subst (λ t. IsGiven t (map string_bytes c.args.words.now) c.in_ok-given.given) c.program.ensures c.in_ok-given.ensures.answer) c.request.ensures c.in-Some.is)
+    (asks c.args.commands (map string_bytes c.args.words.now) c.in_ok-given.given c.request.result c.in-Some.command
+    (subst (λ t. IsGiven t (map string_bytes c.args.words.now) c.in_ok-given.given) c.program.ensures c.in_ok-given.ensures.answer) c.request.ensures c.in-Some.is)

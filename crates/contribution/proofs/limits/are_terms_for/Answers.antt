@@ -4,7 +4,9 @@ use Rattle.contribution.proofs.ExponentBounds.{enough_each}
 use Rattle.contribution.proofs.limits.are_terms_for.Goals as goal
 
 pub returns-clause-exact : goal.returns-clause-exact
-returns-clause-exact c = subst (λ ts. IsTrue c.each_is_for.result ↔ All (IsBoundedTerm c.args.marks) ts) c.as_slice.ensures c.each_is_for.ensures
+returns-clause-exact c =
+    subst
+    (λ ts. IsTrue c.each_is_for.result ↔ All (IsBoundedTerm c.args.marks) ts) c.as_slice.ensures c.each_is_for.ensures
 
 pub returns-clause-enough : goal.returns-clause-enough
 returns-clause-enough c =

@@ -4,10 +4,12 @@ use Rattle.localisation.specs.Contribution.{contribution}
 use Rattle.contribution.proofs.sum.contribution_ratio.Goals as goal
 
 pub times-requires-2-clause-other_top_below : goal.times-requires-2-clause-other_top_below
-times-requires-2-clause-other_top_below c = (c.times.ensures _ _ c.edges_ratio-at_edges.ensures c.terms_ratio-at_terms.ensures).top.below
+times-requires-2-clause-other_top_below c =
+    (c.times.ensures _ _ c.edges_ratio-at_edges.ensures c.terms_ratio-at_terms.ensures).top.below
 
 pub times-requires-2-clause-other_bottom_below : goal.times-requires-2-clause-other_bottom_below
-times-requires-2-clause-other_bottom_below c = (c.times.ensures _ _ c.edges_ratio-at_edges.ensures c.terms_ratio-at_terms.ensures).bottom.below
+times-requires-2-clause-other_bottom_below c =
+    (c.times.ensures _ _ c.edges_ratio-at_edges.ensures c.terms_ratio-at_terms.ensures).bottom.below
 
 pub returns : goal.returns
 unfolding contribution

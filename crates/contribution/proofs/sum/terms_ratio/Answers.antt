@@ -1,3 +1,5 @@
+-- The loop keeps the ratio of the sum over the terms so far; a term adds the product of its vertices' ratio and its
+-- value's.
 use Rattle.std.proofs.Common.{sym, subst}
 use Rattle.contribution.specs.Terms.{IsTermFor}
 use Rattle.contribution.proofs.TermSums.{terms-more}
@@ -12,10 +14,12 @@ term_ratio-requires-clause-classes c =
     (subst (IsTermFor c.args.parts.now.shape.marks) (sym c.term-item.is) (c.requires.terms c.loop-term.term-index c.term-item.result c.loop-term-test.true)).classes
 
 pub plus-sum-requires-clause-other_top_below : goal.plus-sum-requires-clause-other_top_below
-plus-sum-requires-clause-other_top_below c = (c.times-factor.ensures _ _ c.vertices_ratio-vertices.ensures c.term_ratio.ensures).top.below
+plus-sum-requires-clause-other_top_below c =
+    (c.times-factor.ensures _ _ c.vertices_ratio-vertices.ensures c.term_ratio.ensures).top.below
 
 pub plus-sum-requires-clause-other_bottom_below : goal.plus-sum-requires-clause-other_bottom_below
-plus-sum-requires-clause-other_bottom_below c = (c.times-factor.ensures _ _ c.vertices_ratio-vertices.ensures c.term_ratio.ensures).bottom.below
+plus-sum-requires-clause-other_bottom_below c =
+    (c.times-factor.ensures _ _ c.vertices_ratio-vertices.ensures c.term_ratio.ensures).bottom.below
 
 pub loop-term-preserved : goal.loop-term-preserved
 loop-term-preserved c =

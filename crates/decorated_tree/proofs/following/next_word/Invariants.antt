@@ -1,4 +1,4 @@
-use Rattle.decorated_tree.proofs.Counting.{IsCounted}
+use Rattle.decorated_tree.proofs.NextDigits.{IsCounted}
 use Rattle.decorated_tree.proofs.following.next_word.Given as goal
 
 abbrev pub invariant-loop-place : goal.invariant-loop-place

@@ -7,7 +7,9 @@ use Rattle.decorated_tree.proofs.following.raise_last_colour.Goals.{else-colour-
 use Rattle.decorated_tree.proofs.following.raise_last_colour.Goals as goal
 
 pub has_neighbour_of-requires : goal.has_neighbour_of-requires
-has_neighbour_of-requires c = subst (λ m. AreWithin m c.args.edges.now) (sym c.requires.long) (edges_within c.args.n c.args.edges.now c.requires.tree)
+has_neighbour_of-requires c =
+    subst (λ m. AreWithin m c.args.edges.now) (sym c.requires.long)
+    (edges_within c.args.n c.args.edges.now c.requires.tree)
 
 pub returns-then-not-has_neighbour_of-clause-raised : goal.returns-then-not-has_neighbour_of-clause-raised
 returns-then-not-has_neighbour_of-clause-raised c =

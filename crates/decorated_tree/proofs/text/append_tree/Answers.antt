@@ -9,7 +9,8 @@ returns-clause-text c =
     on_ok_weaker c.append_marks.result
     (λ h. six_more _ _ _ _ _ _ _ _ _ _ _ _ _ c.in_ok-append.ensures.text
     (same_more _ _ _ _ c.in_ok-append_edges.ensures.text (ap₂ edges_text c.as_slice.ensures.value (c.used.ensures ∙ ap (λ k. take k c.args.tree.now.degrees) c.saturating_sub.ensures)))
-    c.in_ok-append-2.ensures.text (same_more _ _ _ _ c.in_ok-append_numbers.ensures.text (ap numbers_text c.used-2.ensures))
+    c.in_ok-append-2.ensures.text
+    (same_more _ _ _ _ c.in_ok-append_numbers.ensures.text (ap numbers_text c.used-2.ensures))
     c.in_ok-append-3.ensures.text (same_more _ _ _ _ h (ap marks_text c.used-3.ensures)))
     c.append_marks.ensures.text
 

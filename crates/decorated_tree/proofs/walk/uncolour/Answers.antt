@@ -9,4 +9,6 @@ pub bounds-colours-step-in-loop-step : goal.bounds-colours-step-in-loop-step
 bounds-colours-step-in-loop-step c = (within_at _ _ _ c.requires.within c.loop-step-test.true).1
 
 pub bounds-digits-step : goal.bounds-digits-step
-bounds-digits-step c = let w = (within_at _ _ _ c.requires.within c.loop-step-test.true).0 in let same = c.requires.same in let kept = c.loop-step.auto.digits in omega arith
+bounds-digits-step c =
+    let w = (within_at _ _ _ c.requires.within c.loop-step-test.true).0 in
+    let same = c.requires.same in let kept = c.loop-step.auto.digits in omega arith

@@ -1,3 +1,5 @@
+-- The loops keep that the walk is what the definition has after so many rounds and edges. The walk ends early once it
+-- has all vertices, since later rounds would add nothing.
 use Rattle.std.proofs.Common.{◌-◌, ◌+◌, arith, sym, subst, ap, length}
 use Rattle.decorated_tree.specs.Steps.{AreWithin}
 use Rattle.decorated_tree.proofs.Walking.{walk_of_tree, stepped, not_stepped, walked, walked_all}
@@ -21,18 +23,26 @@ loop-edge-preserved c =
 
 pub returns-clause-within : goal.returns-clause-within
 returns-clause-within c =
-    let done = walked c.args.n c.args.edges.now (c.args.n - c.loop.counter) c.loop.walk c.loop.there (omega arith) c.loop.invariant in
-    subst (AreWithin c.args.n) (sym done) (walk_of_tree c.args.n c.args.edges.now c.requires.most c.requires.tree).within
+    let done =
+    walked c.args.n c.args.edges.now (c.args.n - c.loop.counter) c.loop.walk c.loop.there
+    (omega arith) c.loop.invariant in
+    subst (AreWithin c.args.n) (sym done)
+    (walk_of_tree c.args.n c.args.edges.now c.requires.most c.requires.tree).within
 
 pub returns-then-as_slice-n-clause-value : goal.returns-then-as_slice-n-clause-value
 returns-then-as_slice-n-clause-value c =
     let long = ap length c.as_slice.ensures in
     let all = c.if-as_slice-n.true in
-    walked_all c.args.n c.args.edges.now (c.args.n - c.loop.counter) c.loop.walk c.loop.there c.requires.most c.requires.tree (omega arith) c.loop.invariant
+    walked_all c.args.n c.args.edges.now
+    (c.args.n - c.loop.counter) c.loop.walk c.loop.there c.requires.most c.requires.tree (omega arith) c.loop.invariant
 
 pub returns-then-as_slice-n-clause-within : goal.returns-then-as_slice-n-clause-within
 returns-then-as_slice-n-clause-within c =
     let long = ap length c.as_slice.ensures in
     let all = c.if-as_slice-n.true in
-    let done = walked_all c.args.n c.args.edges.now (c.args.n - c.loop.counter) c.loop.walk c.loop.there c.requires.most c.requires.tree (omega arith) c.loop.invariant in
-    subst (AreWithin c.args.n) (sym done) (walk_of_tree c.args.n c.args.edges.now c.requires.most c.requires.tree).within
+    let done =
+    walked_all c.args.n c.args.edges.now
+    (c.args.n - c.loop.counter) c.loop.walk c.loop.there c.requires.most c.requires.tree
+    (omega arith) c.loop.invariant in
+    subst (AreWithin c.args.n) (sym done)
+    (walk_of_tree c.args.n c.args.edges.now c.requires.most c.requires.tree).within

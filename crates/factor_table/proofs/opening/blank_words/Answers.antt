@@ -1,12 +1,13 @@
 use Rattle.std.proofs.Common.{[], ◌∷◌, ◌++◌, length, map, ap, ◌∙◌, arith}
 use Rattle.arithmetic.specs.Numbers.{reduce}
-use Rattle.factor_table.proofs.Lists.{zero_more, blank}
+use Rattle.factor_table.proofs.InitialWords.{zero_more, blank}
 use Rattle.factor_table.proofs.opening.blank_words.Goals as goal
 
 pub loop-preserved : goal.loop-preserved
 loop-preserved c =
     let base = c.push_moduli.new.words.items in let from = c.loop.auto.counter in let start = c.len-counter.ensures in
-    c.in_ok-push.ensures.items ∙ ap (λ l. l ++ 0 ∷ []) c.loop.invariant ∙ zero_more base (length base) c.loop.counter (omega arith)
+    c.in_ok-push.ensures.items ∙ ap (λ l. l ++ 0 ∷ []) c.loop.invariant
+    ∙ zero_more base (length base) c.loop.counter (omega arith)
 
 pub returns : goal.returns
 returns c =

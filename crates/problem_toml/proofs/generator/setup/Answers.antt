@@ -1,3 +1,5 @@
+-- The base is small, so its square, cube and fourth power fit in 64 bits and within the limits of weights; hence no
+-- refusal is possible.
 use Rattle.std.proofs.Common.{◌∙◌, arith}
 use Rattle.problem_toml.proofs.GeneratedRules.{cube, fourth, no_setup_error, weights_are}
 use Rattle.problem_toml.proofs.generator.setup.Goals as goal

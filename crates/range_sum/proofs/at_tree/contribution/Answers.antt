@@ -6,5 +6,6 @@ use Rattle.range_sum.proofs.at_tree.contribution.Goals as goal
 pub returns : goal.returns
 returns c =
     let p = c.args.problem.now in
-    subst (λ g. GivesResidue (slice_index p.moduli c.args.modulus) (contribution p.setup (get_or p.integrals c.args.integral []) g) c.tree_residue.result) c.parts_of.ensures.tree
+    subst
+    (λ g. GivesResidue (slice_index p.moduli c.args.modulus) (contribution p.setup (get_or p.integrals c.args.integral []) g) c.tree_residue.result) c.parts_of.ensures.tree
     c.tree_residue.ensures

@@ -5,4 +5,5 @@ use Rattle.range_sum.proofs.bad.is_bad_at.Given as goal
 
 abbrev pub invariant-loop-integral : goal.invariant-loop-integral
 invariant-loop-integral l = (i : ℕ) → i < l.integral
-    → lacks_residue (slice_index l.problem.moduli l.modulus) (contribution l.problem.setup (get_or l.problem.integrals i []) l.parts.tree) ≡ false
+    → lacks_residue (slice_index l.problem.moduli l.modulus) (contribution l.problem.setup (get_or l.problem.integrals i []) l.parts.tree)
+    ≡ false

@@ -1,3 +1,5 @@
+-- The loop keeps that none of the numbers so far is bad, and that the sums are the residues of their partial sums. The
+-- partial sum over all numbers is Kontsevich's sum.
 use Rattle.std.proofs.Common.{refl, ◌∙◌, ◌+◌, ◌≤◌, arith}
 use Rattle.problem.specs.Problems.{view}
 use Rattle.problem.specs.Sums.{is_bad_of}
@@ -26,14 +28,17 @@ loop-start-preserved c =
     record {
       from = omega arith;
       to = omega arith;
-      none = none_append (is_bad_of (view p)) c.args.first start stop c.loop-start.invariant.none (c.in_default.ensures.none refl);
-      sums = sums_more p c.args.first start stop _ _ from order (omega arith) c.loop-start.invariant.sums (c.in_default.ensures.added refl);
+      none = none_append (is_bad_of (view p)) c.args.first start stop c.loop-start.invariant.none
+          (c.in_default.ensures.none refl);
+      sums = sums_more p c.args.first start stop _ _ from order (omega arith) c.loop-start.invariant.sums
+          (c.in_default.ensures.added refl);
       rest = λ place h. c.add_block.ensures.rest place h ∙ c.loop-start.invariant.rest place h;
     }
 
 pub returns-clause-sums : goal.returns-clause-sums
 returns-clause-sums c e =
-    sums_to c.args.problem.now c.args.first c.loop-start.start c.args.end _ (let past = c.loop-start-test.false in let to = c.loop-start.invariant.to in omega arith)
+    sums_to c.args.problem.now c.args.first c.loop-start.start c.args.end _
+    (let past = c.loop-start-test.false in let to = c.loop-start.invariant.to in omega arith)
     c.loop-start.invariant.sums
 
 pub returns-clause-all : goal.returns-clause-all

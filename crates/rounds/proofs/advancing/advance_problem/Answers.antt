@@ -1,3 +1,5 @@
+-- The rounds are run with a table and parts made for this problem. The other clauses follow from the outcome of the
+-- rounds: true sums stay true, and chains of calls come to what one call comes to.
 use Rattle.std.proofs.Common.{◌≡◌, ℕ, List, length, All, Result, Ok, Err, IfOk, sym, ap, ◌∙◌, subst}
 use Rattle.problem.specs.declared.problem.Problem.{Problem}
 use Rattle.problem.specs.Problems.{view as problem_view}

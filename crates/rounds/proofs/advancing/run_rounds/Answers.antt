@@ -1,10 +1,13 @@
+-- The loop keeps that some rounds were run from the first number up to here, with their sums and shares (`IsRunning`),
+-- and that the stopper is as before. The call ends at a bad tree, after a stop, or at the end of the budget or of the
+-- trees, and each end is an outcome of these rounds.
 use Rattle.std.proofs.Common.{◌≡◌, ◌+◌, ℕ, min, length, refl, sym, ap, ◌∙◌, subst, arith, sum}
 use Rattle.std.proofs.lemmas.List.{length-replicate}
 use Rattle.problem.specs.declared.problem.Problem.{Problem}
 use Rattle.problem.specs.Problems.{view as problem_view}
 use Rattle.problem.specs.Sums.{count_of}
 use Rattle.table_sum.specs.Sums.{problem_of}
-use Rattle.rounds.specs.Outcomes.{SumView}
+use Rattle.rounds.specs.Outcomes.{SumView, IsProgress}
 use Rattle.rounds.proofs.Running.{end_of, IsRunning, starts, next_running, bad_progress, ends, shares_fit, no_shares, stayed_on}
 use Rattle.rounds.proofs.advancing.run_rounds.Goals as goal
 
@@ -43,9 +46,10 @@ returns-in-Some-clause-progress g c =
     let rules = (problem_of c.args.sum.now).rules in
     let is_count : c.count-count.result ≡ count_of p = c.count-count.ensures.value ∙ ap (λ (q : Problem). count_of (problem_view q)) c.problem.ensures in
     let is_end : c.min-end.result ≡ end_of s c.args.budget = c.min-end.ensures ∙ ap (λ n. min n (c.args.next + c.args.budget)) is_count in
-    bad_progress s c.args.budget (length c.args.parts.now) c.min-end.result c.loop-at.at c.min.result c.loop-at.sums.items c.as_mut_slice.result.now c.sum_round.new.residues
+    subst (λ o. IsProgress s c.args.budget (length c.args.parts.now) (record { outcome = o; shares = c.sum_round.new.shares })) (sym c.bad_outcome-outcome.ensures)
+    (bad_progress s c.args.budget (length c.args.parts.now) c.min-end.result c.loop-at.at c.min.result c.loop-at.sums.items c.as_mut_slice.result.now c.sum_round.new.residues
     c.loop-at.shares c.sum_round.new.shares c.in_ok-found.found c.in-Some.bad is_end c.loop-at-test.true c.min.ensures c.loop-at.invariant.running c.in-Some.is
-    c.in_ok-found.ensures.summed c.in_ok-found.ensures.blocks (c.in_ok-found.ensures.workers ∙ c.loop-at.invariant.shares)
+    c.in_ok-found.ensures.summed c.in_ok-found.ensures.blocks (c.in_ok-found.ensures.workers ∙ c.loop-at.invariant.shares))
 
 pub returns-then-branch-clause-progress : goal.returns-then-branch-clause-progress
 returns-then-branch-clause-progress g c =

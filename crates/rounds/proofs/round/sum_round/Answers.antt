@@ -1,3 +1,5 @@
+-- The pool gives a round of the job: each block was worked once, and the least bad number is exact. If it found none,
+-- the sums of all parts are those of the range, and are added; otherwise the first bad modulus of that number is found.
 use Rattle.std.proofs.Common.{◌≡◌, ℕ, ◌+◌, ◌%◌, ◌<◌, true, List, slice_index, slice_index_or, sum_by, All, sym, ap, subst, arith}
 use Rattle.localisation.specs.Agreement.{IsLeastBad, IsFirstBad, modulus_at}
 use Rattle.problem.specs.declared.problem.Problem.{Problem}

@@ -1,6 +1,6 @@
 use Rattle.std.proofs.Common.{◌≡◌, ◌<◌, ◌+◌, ◌*◌, ◌%◌, slice_index, length, sym, ap, ap₂, ◌∙◌, subst, arith, length-set}
 use Rattle.localisation.specs.Agreement.{modulus_at}
-use Rattle.sum_job.proofs.Places.{added_next, rest_next, modulus_there}
+use Rattle.sum_job.proofs.AddedResidues.{added_next, rest_next, modulus_there}
 use Rattle.sum_job.proofs.sums.add_residues.Goals as goal
 
 pub loop-place-preserved : goal.loop-place-preserved

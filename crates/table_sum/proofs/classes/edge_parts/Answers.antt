@@ -1,3 +1,5 @@
+-- The loop keeps the residue of the product of the class's parts at the edges so far; the key of each edge is one of
+-- the table.
 use Rattle.std.proofs.Common.{get_or, pos, subst, arith}
 use Rattle.std.proofs.lemmas.List.Elements.{All-get_or}
 use Rattle.arithmetic.specs.Fractions.{product_of_fractions, IsResidue}

@@ -1,3 +1,5 @@
+-- The loop keeps the residue of the product of the powers so far; the class of each power is in the table, at the index
+-- that is counted along.
 use Rattle.std.proofs.Common.{get_or, pos, ap, ◌∙◌, subst, arith}
 use Rattle.std.proofs.lemmas.List.{take_all}
 use Rattle.arithmetic.specs.Fractions.{IsResidue}

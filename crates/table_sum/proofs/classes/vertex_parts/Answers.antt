@@ -1,3 +1,4 @@
+-- The loop keeps the residue of the product of the class's parts at the vertices so far.
 use Rattle.std.proofs.Common.{◌≡◌, pos, subst, ap₂, length, map, ◌∙◌, sym, ap, arith}
 use Rattle.arithmetic.specs.Fractions.{product_of_fractions, IsResidue}
 use Rattle.trees.specs.Edges.{below}

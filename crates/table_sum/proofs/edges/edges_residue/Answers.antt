@@ -1,3 +1,4 @@
+-- The loop keeps the residue of the product over the edges so far, and that the seat knows the word of each of them.
 use Rattle.std.proofs.Common.{get_or, pos, subst, All, arith}
 use Rattle.std.proofs.lemmas.List.Elements.{All-get_or}
 use Rattle.arithmetic.specs.Fractions.{product_of_fractions}

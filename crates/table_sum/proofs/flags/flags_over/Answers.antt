@@ -1,3 +1,4 @@
+-- The loop keeps the residues of the product and of the sum of the flags so far.
 use Rattle.std.proofs.Common.{pos, get_or, refl, subst, arith}
 use Rattle.std.proofs.lemmas.List.{take_all}
 use Rattle.arithmetic.specs.Fractions.{IsResidue}

@@ -1,3 +1,5 @@
+-- The loop keeps the residue of the sum over the terms so far, and the index of the next term's first class in the
+-- table.
 use Rattle.std.proofs.Common.{◌+◌, length, take, pos, sym, subst, arith}
 use Rattle.std.proofs.lemmas.List.{take_all, length-map}
 use Rattle.arithmetic.specs.Fractions.{IsResidue}

@@ -1,3 +1,5 @@
+-- The loop keeps the residue of the product over the vertices so far, and that the seat is later than the one handed
+-- in.
 use Rattle.std.proofs.Common.{◌≡◌, pos, map, subst, arith}
 use Rattle.arithmetic.specs.Fractions.{product_of_fractions, IsResidue}
 use Rattle.arithmetic.proofs.Residues.{IsResidue-whole}

@@ -23,6 +23,7 @@ loop-place-preserved c =
     record {
       long = ap length new ∙ length-pushed_at (pushed_at rows e.0 x) e.1 y ∙ length-pushed_at rows e.0 x ∙ long;
       short = λ v. edge_short rows c.push_end-in-loop-place.new.ends e.0 e.1 v i x y apart (omega (arith, first, vertices, long)) (omega (arith, second, vertices, long)) new (before.short v);
-      so_far = λ v lt. edge_added v c.args.colours.now c.args.pairs.now c.args.degrees.now i rows c.push_end-in-loop-place.new.ends test c.requires.degrees apart
+      so_far =
+          λ v lt. edge_added v c.args.colours.now c.args.pairs.now c.args.degrees.now i rows c.push_end-in-loop-place.new.ends test c.requires.degrees apart
           (omega (arith, first, vertices, long)) (omega (arith, second, vertices, long)) new (before.so_far v lt);
     }

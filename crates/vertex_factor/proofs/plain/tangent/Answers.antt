@@ -5,7 +5,8 @@ use Rattle.vertex_factor.proofs.plain.tangent.Goals as goal
 
 pub loop-j-preserved : goal.loop-j-preserved
 loop-j-preserved c =
-    Leaves-push c.loop-j.j (tangent_term c.args.setup.now c.args.c) c.loop-j.invariant c.tangent_term.ensures c.mul-product.ensures.value
+    Leaves-push c.loop-j.j
+    (tangent_term c.args.setup.now c.args.c) c.loop-j.invariant c.tangent_term.ensures c.mul-product.ensures.value
 
 pub returns : goal.returns
 unfolding tangent_product

@@ -8,10 +8,12 @@ pub overflow_mul-result : goal.overflow_mul-result
 overflow_mul-result c =
     omega (
       arith,
-      multinomial_fits c.args.n (sum c.args.exponents.now) c.product_of_factorials.result _ c.requires.limited c.requires.within
+      multinomial_fits c.args.n
+          (sum c.args.exponents.now) c.product_of_factorials.result _ c.requires.limited c.requires.within
           c.product_of_factorials.ensures.bounded (c.factorial-2.ensures ∙ ap (λ s. factorial (c.args.n - s)) c.sum.ensures),
     )
 
 pub nonzero_div-result : goal.nonzero_div-result
 nonzero_div-result c =
-    positive_product c.product_of_factorials.result _ c.product_of_factorials.ensures.positive (rw c.factorial-2.ensures (factorial_positive _))
+    positive_product c.product_of_factorials.result _ c.product_of_factorials.ensures.positive
+    (rw c.factorial-2.ensures (factorial_positive _))

@@ -20,6 +20,8 @@ loop-exponent-preserved c =
     record {
       value = ap (λ p. p * c.factorial-product.result) c.loop-exponent.invariant.value
           ∙ ap (λ f. product_of (map factorial (take i ks)) * f) c.factorial-product.ensures ∙ sym (one_more_factorial ks i c.loop-exponent-test.true);
-      positive = positive_product c.loop-exponent.product _ c.loop-exponent.invariant.positive (rw c.factorial-product.ensures (factorial_positive _));
-      bounded = rw c.factorial-product.ensures (bounded_more ks i c.loop-exponent.product c.loop-exponent-test.true c.loop-exponent.invariant.bounded);
+      positive = positive_product c.loop-exponent.product _ c.loop-exponent.invariant.positive
+          (rw c.factorial-product.ensures (factorial_positive _));
+      bounded = rw c.factorial-product.ensures
+          (bounded_more ks i c.loop-exponent.product c.loop-exponent-test.true c.loop-exponent.invariant.bounded);
     }

@@ -9,6 +9,7 @@ unfolding psi_vertex
 returns c =
     let ws = c.args.setup.now in
     record {
-      top = Leaves-pow c.args.exponent (rw (negated_difference (weight ws c.args.c) (weight ws c.args.u)) c.difference.ensures) c.pow.ensures.value;
+      top = Leaves-pow c.args.exponent
+          (rw (negated_difference (weight ws c.args.c) (weight ws c.args.u)) c.difference.ensures) c.pow.ensures.value;
       bottom = Leaves-pow c.args.exponent c.of_u64.ensures c.pow-2.ensures.value;
     }

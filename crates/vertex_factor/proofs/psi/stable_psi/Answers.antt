@@ -19,6 +19,8 @@ returns c =
           (Leaves-mul (Leaves-pow _ c.tangent.ensures c.pow-tangents.ensures.value) c.sums_over-sums.ensures.degrees c.mul-at_ends.ensures.value)
           (Leaves-pow _ c.sums_over-sums.ensures.crossed c.pow.ensures.value) c.mul-crossed.ensures.value)
           c.of_u64-ways.ensures c.mul.ensures.value);
-      bottom = stable_psi_bottom ws c.args.c es ks s _ (length-ends_of c.args.ends.now) left c.requires.stable c.requires.within
+      bottom =
+          stable_psi_bottom ws c.args.c es ks s _
+          (length-ends_of c.args.ends.now) left c.requires.stable c.requires.within
           (Leaves-pow _ c.sums_over-sums.ensures.differences c.pow-2.ensures.value);
     }

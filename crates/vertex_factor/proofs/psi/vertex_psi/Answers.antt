@@ -6,4 +6,5 @@ pub returns : goal.returns
 returns c = c.residue.ensures _ c.vertex_psi_ratio.ensures
 
 pub vertex_psi_ratio-requires-clause-colours_within : goal.vertex_psi_ratio-requires-clause-colours_within
-vertex_psi_ratio-requires-clause-colours_within c = All-weaker (IsEndAt c.args.setup.now c.args.c) _ (λ e h. h.colour_within) c.args.ends.now c.requires.ends_at
+vertex_psi_ratio-requires-clause-colours_within c =
+    All-weaker (IsEndAt c.args.setup.now c.args.c) _ (λ e h. h.colour_within) c.args.ends.now c.requires.ends_at

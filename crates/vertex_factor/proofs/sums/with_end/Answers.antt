@@ -9,7 +9,8 @@ returns c = λ es before.
     let more = end c.args.u c.args.a in
     record {
       degrees = rw (degrees-push es more) (Leaves-mul before.degrees c.of_u64-degree.ensures c.mul.ensures.value);
-      differences = rw (differences-push ws c.args.c es more) (Leaves-mul before.differences c.difference-difference.ensures c.mul-2.ensures.value);
+      differences = rw (differences-push ws c.args.c es more)
+          (Leaves-mul before.differences c.difference-difference.ensures c.mul-2.ensures.value);
       crossed = rw (crossed-push ws c.args.c es more)
           (Leaves-add (Leaves-mul before.crossed c.difference-difference.ensures c.mul-old_ends.ensures.value)
           (Leaves-mul c.of_u64-degree.ensures before.differences c.mul-new_end.ensures.value) c.add.ensures.value);

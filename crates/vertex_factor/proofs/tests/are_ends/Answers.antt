@@ -6,7 +6,8 @@ use Rattle.vertex_factor.proofs.tests.are_ends.Goals as goal
 
 pub loop-colour-preserved : goal.loop-colour-preserved
 loop-colour-preserved c =
-    All-more (IsEndAt c.args.setup.now c.args.c) c.args.ends.now c.loop-colour.colour-index (0, 0) c.loop-colour-test.true c.loop-colour.invariant
+    All-more (IsEndAt c.args.setup.now c.args.c) c.args.ends.now c.loop-colour.colour-index
+    (0, 0) c.loop-colour-test.true c.loop-colour.invariant
     (record { colour_within = omega arith; colour_differs = c.if-colour-c.false; degree_positive = omega arith; degree_limited = omega arith })
 
 pub returns : goal.returns

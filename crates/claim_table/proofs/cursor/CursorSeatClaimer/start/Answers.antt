@@ -1,3 +1,5 @@
+-- The first seat has the records of all workers. The loop splits off one seat after the other, each with the record of
+-- its worker and nothing taken, and keeps what is left to deal.
 use Rattle.std.proofs.Common.{◌≡◌, ℕ, ◌+◌, ◌<◌, List, [], ◌∷◌, length, get_or, length-append, subst, arith, ap, sym, ◌∙◌}
 use Rattle.atomic_table.specs.Table.{Me}
 use Rattle.claim_table.specs.declared.claimer.Record.{Record}

@@ -18,4 +18,5 @@ returns-clause-all c =
 
 pub returns-clause-correspondence : goal.returns-clause-correspondence
 returns-clause-correspondence c =
-    subst NumbersAreTrees c.self.view_is (numbers_are_trees (shape_from c.self.inside) (small c.self.inside c.self.invariant))
+    subst NumbersAreTrees c.self.view_is
+    (numbers_are_trees (shape_from c.self.inside) (small c.self.inside c.self.invariant))

@@ -1,6 +1,8 @@
+-- The loop subtracts the counts one after the other and keeps that the tree of the number is that of the rest among the
+-- trees with at least `n` vertices. It ends before the counts do, since the number is below their sum.
 use Rattle.std.proofs.Common.{arith}
 use Rattle.decorated_tree.proofs.Counts.{limits}
-use Rattle.decorated_tree.proofs.Places.{place_start, found, not_found, place_short, never_through}
+use Rattle.decorated_tree.proofs.Unranking.{place_start, found, not_found, place_short, never_through}
 use Rattle.decorated_tree.proofs.shape.Shape.place.Goals as goal
 
 pub loop-count-init : goal.loop-count-init
@@ -24,9 +26,11 @@ returns-then-rest-count-clause-tree c =
 
 pub overflow_add-n : goal.overflow_add-n
 overflow_add-n c =
-    let l = limits c.args.self.now.rank c.args.self.now.degree c.args.self.now.marks c.counts-count-items.ensures.shape in
+    let l =
+    limits c.args.self.now.rank c.args.self.now.degree c.args.self.now.marks c.counts-count-items.ensures.shape in
     let most = l.most_degree in
-    let short = place_short c.args.self.now c.args.k c.loop-count.count-index c.loop-count.n c.loop-count.rest c.loop-count.invariant in
+    let short =
+    place_short c.args.self.now c.args.k c.loop-count.count-index c.loop-count.n c.loop-count.rest c.loop-count.invariant in
     omega arith
 
 pub loop-count-preserved : goal.loop-count-preserved

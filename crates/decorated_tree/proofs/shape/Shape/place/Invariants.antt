@@ -1,4 +1,4 @@
-use Rattle.decorated_tree.proofs.Places.{IsPlace}
+use Rattle.decorated_tree.proofs.Unranking.{IsPlace}
 use Rattle.decorated_tree.proofs.shape.Shape.place.Given as goal
 
 abbrev pub invariant-loop-count : goal.invariant-loop-count

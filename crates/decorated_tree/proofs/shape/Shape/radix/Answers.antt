@@ -11,4 +11,5 @@ unwrap-requires c =
     let most = subst (λ (t : TreeShape). c.args.n ≤ t.degree + 1) (sym c.self.view_is) c.requires.most in
     let within = with_within (shape_of f.r f.d f.m) c.args.n c.requires.least most in
     let limited = c.self.invariant.limited in
-    is_there c.radix.result (λ none. let more : 1099511627776 < trees_with (shape_of f.r f.d f.m) c.args.n = c.radix.ensures.none.0 none in omega arith)
+    is_there c.radix.result
+    (λ none. let more : 1099511627776 < trees_with (shape_of f.r f.d f.m) c.args.n = c.radix.ensures.none.0 none in omega arith)

@@ -1,3 +1,4 @@
+-- No sum or product overflows, since a table has fewer than 9,300,000 words; the strides are what they are named for.
 use Rattle.std.proofs.Common.{◌≤◌, ◌*◌, ap, arith}
 use Rattle.factor_table.proofs.Strides.{limited}
 use Rattle.factor_table.proofs.Digits.{product_le}

@@ -17,6 +17,8 @@ load-found-requires c =
 pub returns-else-found-eq0-clause-value : goal.returns-else-found-eq0-clause-value
 returns-else-found-eq0-clause-value c =
     let p = c.args.self.now.parameters in let place = c.args.place in let word = c.load-found.result in
-    let there = subst (λ q. IsFactorAt q place word) c.requires.seat.1 (c.load-found.ensures.2.1 c.if-found-eq0.false) in
-    c.answer_of.ensures (modulus_at p c.args.modulus) (fraction_of p c.args.key) (c.args.self.now.moduli_limited c.args.modulus c.requires.modulus)
+    let there =
+    subst (λ q. IsFactorAt q place word) c.requires.seat.1 (c.load-found.ensures.2.1 c.if-found-eq0.false) in
+    c.answer_of.ensures (modulus_at p c.args.modulus) (fraction_of p c.args.key)
+    (c.args.self.now.moduli_limited c.args.modulus c.requires.modulus)
     (found p c.args.key c.args.modulus place word c.requires.key c.requires.modulus c.requires.place there)

@@ -10,7 +10,8 @@ compare_exchange-requires c =
     let below = below_count p key m c.args.place c.requires.key c.requires.modulus c.requires.place in let count = t.counted in (
       c.requires.seat.0,
       omega arith,
-      fills_told (Unit {0}) t.table.shared.key p _ _ c.args.place c.word_for-word.result _ t.told (from_first p key m c.args.place c.requires.place) below
+      fills_told (Unit {0}) t.table.shared.key p _ _ c.args.place c.word_for-word.result _ t.told
+          (from_first p key m c.args.place c.requires.place) below
           (subst (λ n. n ≢ 0) (sym c.word_for-word.ensures) (word_not_zero c.factor-answer.result))
           (written p key m c.args.place c.word_for-word.result c.get-modulo.result.now c.factor-answer.result c.requires.key c.requires.modulus c.requires.place c.get-modulo.ensures c.factor-answer.ensures c.word_for-word.ensures),
     )

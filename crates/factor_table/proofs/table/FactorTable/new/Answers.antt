@@ -3,7 +3,7 @@ use Rattle.std.proofs.lemmas.List.Elements.{All-push}
 use Rattle.atomic_table.specs.Table.{Me}
 use Rattle.factor_table.specs.declared.table.FactorSeat.{FactorSeat}
 use Rattle.factor_table.specs.declared.table.View.{View}
-use Rattle.factor_table.specs.Places.{words_of}
+use Rattle.factor_table.specs.KeyPlaces.{words_of}
 use Rattle.factor_table.proofs.Keys.{some_word}
 use Rattle.factor_table.proofs.Strides.{words_limited}
 use Rattle.factor_table.proofs.Moves.{splits}
@@ -22,9 +22,11 @@ pub loop-preserved : goal.loop-preserved
 loop-preserved c =
     let inv = c.loop.invariant in let split = c.split_seat-seat.ensures in let p = c.in_ok-parameters.parameters in
     let id = c.in_ok-table.table.shared.table_id in let M : Type 0 = Me (Unit {0}) View in
-    let P : FactorSeat → Type 0 = λ s. (s.seat.table_id ≡ id) × (s.seat.me.0.parameters ≡ p) × (s.seat.me.0.known ≡ []) × (s.seat.me.0.moves ≡ []) in
+    let P : FactorSeat → Type 0 =
+    λ s. (s.seat.table_id ≡ id) × (s.seat.me.0.parameters ≡ p) × (s.seat.me.0.known ≡ []) × (s.seat.me.0.moves ≡ []) in
     let Q : List FactorSeat → Type 0 = λ xs. All P xs in record {
-      dealer = (split.0 ∙ inv.dealer.0, ap (λ (m : M). m.0.parameters) split.2 ∙ inv.dealer.1, ap (λ (m : M). m.0.known) split.2 ∙ inv.dealer.2);
+      dealer =
+          (split.0 ∙ inv.dealer.0, ap (λ (m : M). m.0.parameters) split.2 ∙ inv.dealer.1, ap (λ (m : M). m.0.known) split.2 ∙ inv.dealer.2);
       count = ap length c.push_reserved.ensures.items ∙ length-append c.loop.dealt.items _ ∙ ap (λ n. n + 1) inv.count;
       room = omega (arith, c.push_reserved.ensures.capacity);
       each = subst Q (sym c.push_reserved.ensures.items) (All-push P c.loop.dealt.items _ inv.each (

@@ -1,11 +1,14 @@
+-- The loops go through the integrals and moduli. They keep that the sums before the current index grew by the residue
+-- of the tree's contribution, that those from it on are as before, and that the seat knows the edges of the tree.
 use Rattle.std.proofs.Common.{rules, ◌≡◌, ◌<◌, ◌≤◌, ◌+◌, ◌*◌, ◌∙◌, ℕ, length, get_or, [], slice_index, refl, sym, ap, subst, arith, length-set}
 use Rattle.std.proofs.lemmas.Option.{get_or_from_slice_get}
 use Rattle.arithmetic.specs.Fractions.{IsResidue}
 use Rattle.decorated_tree.specs.Trees.{tree_view}
 use Rattle.localisation.specs.Contribution.{contribution}
 use Rattle.localisation.specs.Agreement.{modulus_at, integral_at}
+use Rattle.problem.specs.Problems.{view}
 use Rattle.range_sum.specs.Totals.{AddsResidue}
-use Rattle.range_sum.proofs.Places.{added_next, rest_next, place_below, within_64, modulus_of_place}
+use Rattle.range_sum.proofs.SumIndices.{added_next, rest_next, place_below, within_64, modulus_of_place}
 use Rattle.range_sum.proofs.ProblemTrees.{tree_of_rank}
 use Rattle.table_sum.specs.Classes.{classes_of_terms}
 use Rattle.table_sum.specs.Sums.{KnowsTree}
@@ -32,7 +35,7 @@ loop-integral-init c =
       first = omega arith;
       size = search rules;
       seat = c.starts-starts.ensures.seat;
-      edges = subst (KnowsTree s.problem.now s.table.now c.starts-starts.new.seat) c.of-parts.ensures.tree c.starts-starts.ensures.edges;
+      edges = subst (KnowsTree (view s.problem.now) s.table.now c.starts-starts.new.seat) c.of-parts.ensures.tree c.starts-starts.ensures.edges;
       added = λ q h. absurd (omega arith);
       rest = λ q h. refl;
     }
@@ -71,7 +74,7 @@ loop-modulus-preserved c =
       place = omega arith;
       size = length-set c.loop-modulus.sums place _ ∙ size;
       seat = later_after _ _ _ _ c.loop-modulus.invariant.seat c.residue.ensures.seat;
-      edges = tree_later p s.table.now _ _ g c.residue.ensures.seat c.loop-modulus.invariant.edges;
+      edges = tree_later (view p) s.table.now _ _ g c.residue.ensures.seat c.loop-modulus.invariant.edges;
       added = added_next (λ q. AddsResidue (modulus_at p.moduli q) (contribution p.setup (integral_at p.moduli p.integrals q) g))
           c.loop-modulus.sums c.args.sums.now 0 c.add.result place (omega arith)
           c.loop-modulus.invariant.added (c.loop-modulus.invariant.rest place (omega arith))

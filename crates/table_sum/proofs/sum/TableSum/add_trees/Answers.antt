@@ -1,6 +1,7 @@
 use Rattle.std.proofs.Common.{◌≡◌, ◌+◌, ◌∙◌, refl, sym, subst, arith}
 use Rattle.decorated_tree.specs.Trees.{tree_view}
 use Rattle.localisation.specs.Contribution.{contribution, partial_sum}
+use Rattle.problem.specs.Problems.{view}
 use Rattle.range_sum.proofs.RangeLaws.{IsTreeUpTo}
 use Rattle.table_sum.specs.Sums.{GrowBy}
 use Rattle.table_sum.proofs.Later.{later_same, later_after}
@@ -60,7 +61,7 @@ loop-k-preserved c =
           (sym c.is_ok.ensures.value ∙ both_second _ _ sure) added.ensures.added);
       rest = λ place h. added.ensures.rest place h ∙ c.loop-k.invariant.rest place h;
       seat = later_after _ _ _ _ c.loop-k.invariant.seat added.ensures.seat;
-      edges = trees_next p s.table.now _ _ (tree_view c.loop-k.tree) c.args.first k added.ensures.seat value c.loop-k.invariant.edges added.ensures.edges;
+      edges = trees_next (view p) s.table.now _ _ (tree_view c.loop-k.tree) c.args.first k added.ensures.seat value c.loop-k.invariant.edges added.ensures.edges;
     }
 
 pub returns-then-every-clause-added : goal.returns-then-every-clause-added

@@ -20,5 +20,5 @@ invariant-loop-k l = record {
   added : l.every ≡ true → (GrowBy l.self.problem.now (partial_sum l.self.problem.now.setup l.self.problem.now.shape l.first l.k) l.fn.sums l.sums);
   rest : (place : ℕ) → places_of (view l.self.problem.now) ≤ place → slice_index l.sums place ≡ slice_index l.fn.sums place;
   seat : IsLater l.self.table.now l.fn.seat l.seat;
-  edges : KnowsTrees l.self.problem.now l.self.table.now l.seat l.first l.k;
+  edges : KnowsTrees (view l.self.problem.now) l.self.table.now l.seat l.first l.k;
 }

@@ -1,3 +1,5 @@
+-- The table is of the problem's weights, degree and classes, and the classes of the integral are in it from the given
+-- index on: so the call for any terms gives the residue of this integral's contribution.
 use Rattle.std.proofs.Common.{◌<◌, [], slice_index, All, ap, sym, subst, ◌∙◌}
 use Rattle.std.proofs.lemmas.Option.{get_or_from_slice_get}
 use Rattle.std.proofs.lemmas.Result.{IfOk-at_ok}

@@ -1,3 +1,5 @@
+-- The table is of the problem's weights, degree and moduli, so the call for any column gives the residue for this
+-- modulus.
 use Rattle.std.proofs.Common.{ap, sym, subst, ◌∙◌, arith}
 use Rattle.factor_table.specs.declared.table.FactorTable.{FactorTable}
 use Rattle.factor_table.specs.Seats.{parameters_of, IsSeatOf}

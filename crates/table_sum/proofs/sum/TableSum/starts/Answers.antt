@@ -1,5 +1,5 @@
 use Rattle.std.proofs.Common.{Ok, slice_index, refl, ◌∙◌, arith, length-set}
-use Rattle.range_sum.proofs.Places.{added_next}
+use Rattle.range_sum.proofs.SumIndices.{added_next}
 use Rattle.table_sum.specs.Words.{MayGive}
 use Rattle.table_sum.specs.Trees.{KnowsEdges, tree_start}
 use Rattle.table_sum.proofs.Later.{later_after}

@@ -1,3 +1,5 @@
+-- A decorated tree of this rank has few vertices, edges within them with ends of different colours, and positive
+-- degrees: this is what each call requires. The three arrays that are made are those of the tree (`made`).
 use Rattle.std.proofs.Common.{arith}
 use Rattle.tree_parts.proofs.Making.{limits, total_limited, colours_few, pairs_within, pairs_apart, degree_each, marks_below, shape_is, made}
 use Rattle.tree_parts.proofs.parts.TreeParts.of.Goals as goal
@@ -15,22 +17,27 @@ pub total-requires : goal.total-requires
 total-requires c = total_limited c.args.rank c.args.tree.now c.requires
 
 pub coloured_edges-requires-clause-within : goal.coloured_edges-requires-clause-within
-coloured_edges-requires-clause-within c = pairs_within c.args.rank c.args.tree.now c.as_slice-pairs.result.now c.requires c.as_slice-pairs.ensures.value
+coloured_edges-requires-clause-within c =
+    pairs_within c.args.rank c.args.tree.now c.as_slice-pairs.result.now c.requires c.as_slice-pairs.ensures.value
 
 pub coloured_edges-requires-clause-degrees : goal.coloured_edges-requires-clause-degrees
-coloured_edges-requires-clause-degrees c = degree_each c.args.rank c.args.tree.now c.as_slice-pairs.result.now c.requires c.as_slice-pairs.ensures.value
+coloured_edges-requires-clause-degrees c =
+    degree_each c.args.rank c.args.tree.now c.as_slice-pairs.result.now c.requires c.as_slice-pairs.ensures.value
 
 pub ends_by_vertex-requires-clause-vertices : goal.ends_by_vertex-requires-clause-vertices
 ends_by_vertex-requires-clause-vertices c = colours_few c.args.rank c.args.tree.now c.requires
 
 pub ends_by_vertex-requires-clause-within : goal.ends_by_vertex-requires-clause-within
-ends_by_vertex-requires-clause-within c = pairs_within c.args.rank c.args.tree.now c.as_slice-pairs.result.now c.requires c.as_slice-pairs.ensures.value
+ends_by_vertex-requires-clause-within c =
+    pairs_within c.args.rank c.args.tree.now c.as_slice-pairs.result.now c.requires c.as_slice-pairs.ensures.value
 
 pub ends_by_vertex-requires-clause-apart : goal.ends_by_vertex-requires-clause-apart
-ends_by_vertex-requires-clause-apart c = pairs_apart c.args.rank c.args.tree.now c.as_slice-pairs.result.now c.requires c.as_slice-pairs.ensures.value
+ends_by_vertex-requires-clause-apart c =
+    pairs_apart c.args.rank c.args.tree.now c.as_slice-pairs.result.now c.requires c.as_slice-pairs.ensures.value
 
 pub ends_by_vertex-requires-clause-degrees : goal.ends_by_vertex-requires-clause-degrees
-ends_by_vertex-requires-clause-degrees c = degree_each c.args.rank c.args.tree.now c.as_slice-pairs.result.now c.requires c.as_slice-pairs.ensures.value
+ends_by_vertex-requires-clause-degrees c =
+    degree_each c.args.rank c.args.tree.now c.as_slice-pairs.result.now c.requires c.as_slice-pairs.ensures.value
 
 pub marks_by_vertex-requires-clause-within : goal.marks_by_vertex-requires-clause-within
 marks_by_vertex-requires-clause-within c = marks_below c.args.rank c.args.tree.now c.requires

@@ -1,10 +1,14 @@
+-- A block is passed over if it begins above the bad number that was seen; otherwise `add_block` gives its least bad
+-- number or adds it to the part. In each of the three cases the part stands for one more pair, and the answer is the
+-- least bad number of the block that is at most what was seen.
 use Rattle.std.proofs.Common.{◌≡◌, ◌<◌, ◌≤◌, ℕ, Some, None, sym, ap, ◌∙◌, subst, refl, arith}
 use Rattle.localisation.specs.Agreement.{IsLeastBad, NoneBad}
 use Rattle.problem.specs.Sums.{is_bad_of}
 use Rattle.worker_pool.specs.Rounds.{at_most}
 use Rattle.factor_table.specs.declared.table.FactorSeat.{FactorSeat}
 use Rattle.table_sum.specs.Words.{IsLater}
-use Rattle.sum_job.specs.Parts.{JobView, block_start, block_stop, least_bad_of, least_with, IsAdded, KnowsNumbers, KnowsBlock}
+use Rattle.sum_job.specs.Parts.{JobView, block_start, block_stop, least_bad_of, least_with, IsAdded, KnowsBlock}
+use Rattle.table_sum.specs.Sums.{KnowsTrees}
 use Rattle.sum_job.specs.Jobs.{view}
 use Rattle.sum_job.proofs.JobLaws.{none_of_block, least_of_block}
 use Rattle.sum_job.proofs.PartLaws.{passed_over, noted, added, answer_above, at_same}
@@ -46,8 +50,8 @@ told_none job start stop block e f lt h =
 
 -- the edges of a block's trees
 known : (job : JobView) (seat : FactorSeat) (start stop block : ℕ) → start ≡ block_start job block → stop ≡ block_stop job block
-    → KnowsNumbers job seat start stop → KnowsBlock job seat block
-known job seat start stop block e f h = at_same (KnowsNumbers job seat) start stop (block_start job block) (block_stop job block) e f h
+    → KnowsTrees job.problem job.table seat start stop → KnowsBlock job seat block
+known job seat start stop block e f h = at_same (KnowsTrees job.problem job.table seat) start stop (block_start job block) (block_stop job block) e f h
 
 pub returns-in-Some-clause-stands : goal.returns-in-Some-clause-stands
 returns-in-Some-clause-stands c =

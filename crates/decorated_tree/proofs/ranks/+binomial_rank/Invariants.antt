@@ -1,5 +1,0 @@
-use Rattle.std.proofs.Common.{length}
-use Rattle.decorated_tree.proofs.ranks.+binomial_rank.Given as goal
-
-abbrev pub decreases-binomial_rank : goal.decreases-binomial_rank
-decreases-binomial_rank l = length l.degrees.now

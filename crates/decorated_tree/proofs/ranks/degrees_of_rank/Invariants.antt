@@ -1,5 +1,0 @@
-use Rattle.decorated_tree.proofs.Ranking.{IsMade}
-use Rattle.decorated_tree.proofs.ranks.degrees_of_rank.Given as goal
-
-abbrev pub invariant-loop-place : goal.invariant-loop-place
-invariant-loop-place l = IsMade l.count l.sum l.rank l.place l.degrees l.left l.rest

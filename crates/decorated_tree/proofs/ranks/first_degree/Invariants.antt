@@ -1,5 +1,0 @@
-use Rattle.decorated_tree.proofs.Ranking.{IsFirst}
-use Rattle.decorated_tree.proofs.ranks.first_degree.Given as goal
-
-abbrev pub invariant-loop-degree : goal.invariant-loop-degree
-invariant-loop-degree l = IsFirst l.sum l.others l.rank l.degree l.rest

@@ -1,5 +1,0 @@
-use Rattle.decorated_tree.proofs.Ranking.{IsPassed}
-use Rattle.decorated_tree.proofs.ranks.passed.Given as goal
-
-abbrev pub invariant-loop-first : goal.invariant-loop-first
-invariant-loop-first l = IsPassed l.sum l.others l.first l.lists
