@@ -11,7 +11,7 @@ mod table;
 
 pub use command::{Command, RunRequest};
 pub use command_words::WordsError;
-pub use reading::read;
+pub use reading::{are_taken, read};
 pub use table::Commands;
 
 #[cfg(test)]
