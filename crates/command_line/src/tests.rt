@@ -16,14 +16,10 @@ fn words_of(alloc: Global, line: &str) -> Result<Vec<String>, AllocError> {
     Ok(words)
 }
 
-/// What the arguments of a line ask, or why they are refused; if `are_taken` says otherwise than `read`, this.
+/// What the arguments of a line ask, or why they are refused.
 fn told(alloc: Global, commands: Commands, line: &str) -> Result<String, AllocError> {
     let words = words_of(alloc, line)?;
-    let found = read(alloc, commands, words.as_slice());
-    if are_taken(commands, words.as_slice()) != found.is_ok() {
-        return String::from_str(alloc, "are_taken and read differ");
-    }
-    match found {
+    match read(alloc, commands, words.as_slice()) {
         Ok(command) => format!(in alloc; "{command:?}"),
         Err(WordsError::Refused) => String::from_str(alloc, "refused"),
         Err(WordsError::ByCommand(_)) => String::from_str(alloc, "command"),
@@ -31,13 +27,20 @@ fn told(alloc: Global, commands: Commands, line: &str) -> Result<String, AllocEr
     }
 }
 
+/// Whether `are_taken` says that the arguments of a line are accepted.
+fn is_taken(alloc: Global, commands: Commands, line: &str) -> Result<bool, AllocError> {
+    let words = words_of(alloc, line)?;
+    Ok(are_taken(commands, words.as_slice()))
+}
+
+/// Whether what was found is a refusal.
+fn is_refusal(found: &str) -> bool {
+    found == "refused" || found == "command" || found == "no memory"
+}
+
 /// Whether this is what a case wants, which may leave open what is asked.
 fn is_wanted(found: &str, wanted: &str) -> bool {
-    let is_refusal = found == "refused"
-        || found == "command"
-        || found == "no memory"
-        || found == "are_taken and read differ";
-    found == wanted || (wanted == "taken" && !is_refusal)
+    found == wanted || (wanted == "taken" && !is_refusal(found))
 }
 
 /// The first line of a text with cases that is not as it wants, and what was found instead; empty if there is none.
@@ -47,6 +50,9 @@ fn first_wrong(alloc: Global, commands: Commands, text: &str) -> Result<String, 
             let found = told(alloc, commands, words)?;
             if !is_wanted(found.as_str(), wanted) {
                 return format!(in alloc; "{line:?}: {found}");
+            }
+            if is_taken(alloc, commands, words)? == is_refusal(found.as_str()) {
+                return format!(in alloc; "{line:?}: are_taken says otherwise");
             }
         }
     }
