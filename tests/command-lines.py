@@ -43,7 +43,7 @@ ALL = {
     "batch": ([TEXT], 1, WORKERS),
     "cross": (FILES_8, 2, WORKERS),
 }
-BUILT = {"run": ([TEXT], 1, {})}
+BUILT = {name: ALL[name] for name in ("run", "resume", "make", "soak")}
 
 
 def value_of(kind, text):
@@ -164,11 +164,12 @@ def some_words(random, table):
     return ["locus", command] + words
 
 
-def lines(table, count, seed):
+def lines(table, count, seed, spoken=None):
+    """Lists of words of the commands in `spoken`, or else in `table`, with what they ask by `table`."""
     chance = random.Random(seed)
     found = {}
     while len(found) < count:
-        words = some_words(chance, table)
+        words = some_words(chance, spoken or table)
         found["|".join(words)] = answer(table, words)
     return ["%s  %s" % (a, w) for w, a in found.items()]
 
@@ -181,7 +182,7 @@ def constant(name, about, cases):
 def main():
     here = os.path.dirname(os.path.abspath(__file__))
     cases = lines(ALL, COUNT, 1)
-    built = lines(BUILT, 40, 2)
+    built = lines(BUILT, 50, 2) + lines(BUILT, 30, 3, ALL)
     taken = sum(c.split("  ")[0] not in ("refused", "command") for c in cases)
     assert COUNT // 3 < taken < COUNT * 3 // 4, taken
     parts = ["//! Lists of words, made by tests/command-lines.py: on each line what they ask, two spaces and the words."]

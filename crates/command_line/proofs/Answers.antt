@@ -17,14 +17,14 @@ use Rattle.command_line.specs.Table.{CommandRule, rules_of, table_of_commands}
 use Rattle.command_line.proofs.Rules.{answered}
 
 -- a usage of the table is that of a rule
-rule_there : (rs : List CommandRule) (u : Usage) → Contains (map (λ r. r.usage) rs) u
+pub rule_there : (rs : List CommandRule) (u : Usage) → Contains (map (λ r. r.usage) rs) u
     → (r : CommandRule) × Contains rs r × (r.usage ≡ u)
 rule_there [] u (k, lt, is) = absurd (omega arith)
 rule_there (r ∷ rs) u (zero, lt, is) = (r, (0, omega arith, refl), is)
 rule_there (r ∷ rs) u (suc k, lt, is) =
     let (s, (n, less, same), of) = rule_there rs u (k, omega arith, is) in (s, (suc n, omega arith, same), of)
 
-first : (a b : Bool) → (a && b) ≡ true → a ≡ true
+pub first : (a b : Bool) → (a && b) ≡ true → a ≡ true
 first true b e = refl
 first false b e = absurd (false≢true e)
 

@@ -1,7 +1,8 @@
 mod Answers
-pub mod Built
+pub mod BuiltToday
 pub mod Consequences
 mod Names
 mod Rules
 pub mod Sound
+mod Within
 mod Worked

@@ -15,7 +15,7 @@ use Rattle.command_line.specs.Given.{request_named}
 use Rattle.command_line.specs.Table.{CommandRule, all_commands, rules_of}
 use Rattle.command_line.specs.Table as table
 
-and_both : (a b : Bool) → (a && b) ≡ true → (a ≡ true) × (b ≡ true)
+pub and_both : (a b : Bool) → (a && b) ≡ true → (a ≡ true) × (b ≡ true)
 and_both true b e = (refl, e)
 and_both false b e = absurd (false≢true e)
 
@@ -29,7 +29,7 @@ one_word s (a ∷ b ∷ ws) e =
     let fit = (and_both (nat_le 1 (length (a ∷ b ∷ ws))) _ e).1 in
     absurd (false≢true (and_both (fits s.limit a) _ fit).1)
 
-two_words : (s t : Slot) (ws : List Text) → (nat_le 2 (length ws) && plains_fit (s ∷ t ∷ []) ws) ≡ true
+pub two_words : (s t : Slot) (ws : List Text) → (nat_le 2 (length ws) && plains_fit (s ∷ t ∷ []) ws) ≡ true
     → (a b : Text) × (ws ≡ a ∷ b ∷ []) × (fits s.limit a ≡ true) × (fits t.limit b ≡ true)
 two_words s t [] e = absurd (false≢true e)
 two_words s t (a ∷ []) e = absurd (false≢true e)
@@ -41,7 +41,7 @@ two_words s t (a ∷ b ∷ c ∷ ws) e =
     let (first, rest) = and_both (fits s.limit a) _ fit in
     absurd (false≢true (and_both (fits t.limit b) _ rest).1)
 
-three_words : (s t u : Slot) (ws : List Text) → (nat_le 3 (length ws) && plains_fit (s ∷ t ∷ u ∷ []) ws) ≡ true
+pub three_words : (s t u : Slot) (ws : List Text) → (nat_le 3 (length ws) && plains_fit (s ∷ t ∷ u ∷ []) ws) ≡ true
     → (a b c : Text) × (ws ≡ a ∷ b ∷ c ∷ []) × (fits s.limit a ≡ true) × (fits t.limit b ≡ true) × (fits u.limit c ≡ true)
 three_words s t u [] e = absurd (false≢true e)
 three_words s t u (a ∷ []) e = absurd (false≢true e)
@@ -137,7 +137,10 @@ pick (x ∷ rs) r each (zero, lt, is) = subst IsAnswered is each.0
 pick (x ∷ rs) r each (suc k, lt, is) = pick rs r each.1 (k, omega arith, is)
 
 each : (c : Commands) → Each (rules_of c)
-each commands.Built = ((run_some (codes "run") [], λ ws os. refl), tt)
+each commands.Built = (
+  (run_some (codes "run") (table.workers ∷ table.budget ∷ table.stop_file ∷ []), λ ws os. refl),
+  ((resume_some, λ ws os. refl), ((make_some, λ ws os. refl), ((soak_some, λ ws os. refl), tt))),
+)
 each commands.All = (
   (run_some (codes "run") (table.workers ∷ table.budget ∷ table.stop_file ∷ []), λ ws os. refl),
   (

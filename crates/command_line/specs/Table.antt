@@ -48,9 +48,6 @@ stop_file = text (codes "stop-file")
 abbrev pub usage : Text → List Slot → ℕ → List Slot → Usage
 usage name plains least options = record { name = name; plains = plains; least = least; options = options }
 
-abbrev pub run_alone : CommandRule
-run_alone = record { usage = usage (codes "run") (file ∷ []) 1 ([]); asked = run_asked }
-
 abbrev pub run : CommandRule
 run = record { usage = usage (codes "run") (file ∷ []) 1 (workers ∷ budget ∷ stop_file ∷ []); asked = run_asked }
 
@@ -106,7 +103,7 @@ abbrev pub all_commands : List CommandRule
 all_commands = run ∷ resume ∷ make ∷ soak ∷ trees ∷ rank ∷ unrank ∷ split ∷ merge ∷ batch ∷ cross ∷ []
 
 abbrev pub rules_of : Commands → List CommandRule
-rules_of commands.Built = run_alone ∷ []
+rules_of commands.Built = run ∷ resume ∷ make ∷ soak ∷ []
 rules_of commands.All = all_commands
 
 abbrev pub table_of_commands : Commands → List Usage

@@ -6,11 +6,12 @@ mod command;
 mod files;
 mod reading;
 mod requests;
+mod rows;
 mod table;
 
 pub use command::{Command, RunRequest};
 pub use command_words::WordsError;
-pub use reading::read;
+pub use reading::{are_taken, read};
 pub use table::Commands;
 
 #[cfg(test)]

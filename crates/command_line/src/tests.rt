@@ -3,7 +3,7 @@ mod lists;
 mod messages;
 mod random;
 
-use crate::{Commands, WordsError, read};
+use crate::{Commands, WordsError, are_taken, read};
 use std::alloc::{AllocError, Global};
 use std::test::Fail;
 
@@ -27,10 +27,20 @@ fn told(alloc: Global, commands: Commands, line: &str) -> Result<String, AllocEr
     }
 }
 
+/// Whether `are_taken` says that the arguments of a line are accepted.
+fn is_taken(alloc: Global, commands: Commands, line: &str) -> Result<bool, AllocError> {
+    let words = words_of(alloc, line)?;
+    Ok(are_taken(commands, words.as_slice()))
+}
+
+/// Whether what was found is a refusal.
+fn is_refusal(found: &str) -> bool {
+    found == "refused" || found == "command" || found == "no memory"
+}
+
 /// Whether this is what a case wants, which may leave open what is asked.
 fn is_wanted(found: &str, wanted: &str) -> bool {
-    let is_refusal = found == "refused" || found == "command" || found == "no memory";
-    found == wanted || (wanted == "taken" && !is_refusal)
+    found == wanted || (wanted == "taken" && !is_refusal(found))
 }
 
 /// The first line of a text with cases that is not as it wants, and what was found instead; empty if there is none.
@@ -40,6 +50,9 @@ fn first_wrong(alloc: Global, commands: Commands, text: &str) -> Result<String, 
             let found = told(alloc, commands, words)?;
             if !is_wanted(found.as_str(), wanted) {
                 return format!(in alloc; "{line:?}: {found}");
+            }
+            if is_taken(alloc, commands, words)? == is_refusal(found.as_str()) {
+                return format!(in alloc; "{line:?}: are_taken says otherwise");
             }
         }
     }
@@ -121,5 +134,6 @@ fn no_words_are_refused_by_the_command(rt: HostRuntime) -> Result<(), Fail> {
     let none: Vec<String> = Vec::new(rt.alloc());
     let found = read(rt.alloc(), Commands::All, none.as_slice());
     assert!(rt; matches!(&found, Err(WordsError::ByCommand(_))));
+    assert!(rt; !are_taken(Commands::All, none.as_slice()));
     Ok(())
 }

@@ -44,7 +44,7 @@ sound_names table e =
     and_both (list_all is_plain (commands_of table)) _
     (and_both (nat_lt 0 (length table) && list_all is_sound table) _ e).1
 
-row_there : (table : List Usage) (word : Text) (u : Usage) → usage_named table word ≡ Some u → Contains table u
+pub row_there : (table : List Usage) (word : Text) (u : Usage) → usage_named table word ≡ Some u → Contains table u
 row_there [] word u e = cc
 row_there (v ∷ table) word u e = step (bytes_eq v.name word) e (row_there table word u)
   where

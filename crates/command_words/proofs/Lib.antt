@@ -15,4 +15,5 @@ mod Lookups
 mod Uses
 pub mod Values
 mod Passing
+mod Told
 mod Walks

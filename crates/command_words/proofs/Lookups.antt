@@ -9,8 +9,8 @@ use Rattle.std.proofs.lemmas.Slice.Eq.{bytes_eq-Decides}
 use Rattle.std.specs.Prelude.{nat_lt, nat_le}
 use Rattle.std.specs.Str.{bytes_eq}
 use Rattle.clap.specs.Walk.{Text}
-use Rattle.command_words.specs.Usages.{Slot, different, fits, is_among, names_of}
-use Rattle.command_words.specs.Words.{plain, option, slot_named}
+use Rattle.command_words.specs.Usages.{Slot, different, is_among, names_of}
+use Rattle.command_words.specs.Words.{slot_named}
 use Rattle.command_words.specs.Rows.{has_name}
 use Rattle.command_words.proofs.Args.{Arg, option_arg, place_after, plain_arg, plain_args, same_text}
 use Rattle.command_words.proofs.Rows.{Given}

@@ -1,6 +1,6 @@
 -- Which arguments of clap the words after a command belong to, and when their items pass one by one: the value of an option
 -- is the next word, if it does not stand behind a `=`.
-use Rattle.std.proofs.Common.{◌≡◌, cond, ℕ, ◌==◌, List, [], ◌∷◌, ◌++◌, map, fold, find, Option, Some, None, option_map, is_some, Bool, true, false, not, ◌&&◌, slice_get, refl, ap, sym, subst}
+use Rattle.std.proofs.Common.{◌≡◌, ℕ, ◌==◌, List, [], ◌∷◌, ◌++◌, map, find, Option, Some, None, option_map, is_some, Bool, true, false, not, ◌&&◌, slice_get, refl, sym, subst}
 use Rattle.std.proofs.lemmas.Bool.{false≢true}
 use Rattle.std.proofs.lemmas.Option.{same_Some}
 use Rattle.std.specs.List.{list_any}
@@ -8,10 +8,9 @@ use Rattle.std.specs.Str.{bytes_eq, chars}
 use Rattle.std.specs.Bool.{if◌then◌else◌}
 use Rattle.std.specs.Option.{option_map_or}
 use Rattle.clap.specs.Lexer.{short_of}
-use Rattle.clap.specs.Walk.{Row, Text, value, has_long}
+use Rattle.clap.specs.Walk.{Row, Text, has_long}
 use Rattle.clap.specs.Simple.{Shape, new_shape}
 use Rattle.clap.specs.Kinds.{Kinds, or_else}
-use Rattle.clap.specs.declared.error.kind.ErrorKind.TheVariants as kind
 use Rattle.command_words.specs.Words.{Item, plain, option}
 use Rattle.command_words.specs.Rows.{has_name}
 use Rattle.command_words.proofs.Items.{Items, Rest, more}

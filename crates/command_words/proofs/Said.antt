@@ -11,7 +11,7 @@ use Rattle.clap.proofs.CutLemmas.{Lacks}
 use Rattle.clap.proofs.LexerLemmas.{name_and_value-at, name_and_value-without}
 use Rattle.command_words.specs.Usages.{is_plain}
 use Rattle.command_words.specs.Words.{Item, plain, option, Says, nothing, bare_word, apart, joined, has_empty_value, is_empty, is_empty_option, is_name, is_refused_first}
-use Rattle.command_words.proofs.Items.{attached, alone, bare, form_by, form_of, long_form, items_by, items_of, more, rest_by, rest_of}
+use Rattle.command_words.proofs.Items.{attached, alone, bare, form_by, form_of, items_by, items_of, more, rest_by, rest_of}
 use Rattle.command_words.proofs.Passing.{from_more, from_rest}
 use Rattle.command_words.proofs.Bools.{or_false, not_true}
 
@@ -22,25 +22,35 @@ lacks_byte (x ∷ xs) e (suc i) lt same = lacks_byte xs (or_false (x == 61) _ e)
 
 -- ---- from the relation to the function
 
+pub plain_long : (w : Text) → is_plain w ≡ true → long_of w ≡ None
+plain_long [] e = absurd (false≢true e)
+plain_long (x ∷ xs) e = rw (not_true (x == 45) e) refl
+
+pub alone_long : (name : Text) → is_name name ≡ true → 0 < length name
+    → long_of (codes "--" ++ name) ≡ Some (name, None)
+alone_long [] e some = absurd (omega arith)
+alone_long (x ∷ xs) e some = ap Some (name_and_value-without (x ∷ xs) (lacks_byte (x ∷ xs) (not_true _ e)))
+
 plain_form : (w : Text) → is_plain w ≡ true → form_of w ≡ bare
 plain_form [] e = absurd (false≢true e)
 plain_form (x ∷ xs) e = rw (not_true (x == 45) e) refl
 
 alone_form : (name : Text) → is_name name ≡ true → 0 < length name → form_of (codes "--" ++ name) ≡ alone name
-alone_form [] e some = absurd (omega arith)
-alone_form (x ∷ xs) e some =
-    ap (λ (p : Text × Option Text). long_form p.0 p.1)
-    (name_and_value-without (x ∷ xs) (lacks_byte (x ∷ xs) (not_true _ e)))
+alone_form name e some = ap (λ o. form_by o (short_of (codes "--" ++ name))) (alone_long name e some)
 
 long_rest : (xs : Text) (y : ℕ) (ys : Text) → long_of_rest (xs ++ y ∷ ys) ≡ Some (name_and_value (xs ++ y ∷ ys))
 long_rest [] y ys = refl
 long_rest (x ∷ xs) y ys = refl
 
+pub attached_long : (name value : Text) → is_name name ≡ true
+    → long_of (codes "--" ++ name ++ 61 ∷ value) ≡ Some (name, Some value)
+attached_long name value e =
+    long_rest name 61 value ∙ ap Some (name_and_value-at name value (lacks_byte name (not_true _ e)))
+
 attached_form : (name value : Text) → is_name name ≡ true
     → form_of (codes "--" ++ name ++ 61 ∷ value) ≡ attached name value
 attached_form name value e =
-    ap (λ o. form_by o (short_of (codes "--" ++ name ++ 61 ∷ value))) (long_rest name 61 value)
-    ∙ ap (λ (p : Text × Option Text). long_form p.0 p.1) (name_and_value-at name value (lacks_byte name (not_true _ e)))
+    ap (λ o. form_by o (short_of (codes "--" ++ name ++ 61 ∷ value))) (attached_long name value e)
 
 pub said : (ws : List Text) (is : List Item) → Says ws is → items_of ws ≡ Some is
 said _ _ nothing = refl
@@ -93,7 +103,7 @@ dashes (x ∷ xs) p e = first (x == 45) refl e
     first true t e = second xs true refl t e
     first false t e = cc
 
-alone_word : (w name : Text) → long_of w ≡ Some (name, None)
+pub alone_word : (w name : Text) → long_of w ≡ Some (name, None)
     → (w ≡ codes "--" ++ name) × (is_name name ≡ true) × (0 < length name)
 alone_word w name e = by_cut (dashes w (name, None) e)
   where
@@ -120,23 +130,23 @@ no_empty_value : (name : Text) → has_byte 61 name ≡ false → has_empty_valu
 no_empty_value [] none = refl
 no_empty_value (x ∷ xs) none = rw (or_false (x == 61) _ none).0 (no_empty_value xs (or_false (x == 61) _ none).1)
 
-some_bytes : (value : Text) → is_empty value ≡ false → 0 < length value
+pub some_bytes : (value : Text) → is_empty value ≡ false → 0 < length value
 some_bytes [] e = absurd (false≢true (sym e))
 some_bytes (x ∷ xs) e = omega arith
 
-not_empty : (value : Text) → 0 < length value → is_empty value ≡ false
+pub not_empty : (value : Text) → 0 < length value → is_empty value ≡ false
 not_empty [] some = absurd (omega arith)
 not_empty (x ∷ xs) some = refl
 
-attached_word : (w name value : Text) → long_of w ≡ Some (name, Some value) → is_empty_option w ≡ false
-    → (w ≡ codes "--" ++ name ++ 61 ∷ value) × (is_name name ≡ true) × (0 < length value)
-attached_word w name value e good = by_cut (dashes w (name, Some value) e)
+pub attached_cut : (w name value : Text) → long_of w ≡ Some (name, Some value)
+    → (w ≡ codes "--" ++ name ++ 61 ∷ value) × (is_name name ≡ true)
+attached_cut w name value e = by_cut (dashes w (name, Some value) e)
   where
     by_cut : (rest : Text) × (w ≡ 45 ∷ 45 ∷ rest) × (0 < length rest) × (name_and_value rest ≡ (name, Some value))
-        → (w ≡ codes "--" ++ name ++ 61 ∷ value) × (is_name name ≡ true) × (0 < length value)
+        → (w ≡ codes "--" ++ name ++ 61 ∷ value) × (is_name name ≡ true)
     by_cut (rest, same, some, is) = go (cut rest)
       where
-        go : Cut rest → (w ≡ codes "--" ++ name ++ 61 ∷ value) × (is_name name ≡ true) × (0 < length value)
+        go : Cut rest → (w ≡ codes "--" ++ name ++ 61 ∷ value) × (is_name name ≡ true)
         go (inl none) =
             let both : (rest, None) ≡ (name, Some value) =
             sym (name_and_value-without rest (lacks_byte rest none)) ∙ is in
@@ -148,8 +158,14 @@ attached_word w name value e good = by_cut (dashes w (name, Some value) e)
             let here : xs ≡ name = ap (λ (p : Text × Option Text). p.0) both in
             let there : ys ≡ value = same_Some ys value (ap (λ (p : Text × Option Text). p.1) both) in
             let whole : w ≡ codes "--" ++ xs ++ 61 ∷ ys = same ∙ ap (λ t. 45 ∷ 45 ∷ t) split in
-            let fine : has_empty_value (xs ++ 61 ∷ ys) ≡ false = sym (ap is_empty_option whole) ∙ good in
-            (whole ∙ ap₂ (λ a b. codes "--" ++ a ++ 61 ∷ b) here there, rw (← here, none) refl, some_bytes value (ap is_empty (sym there) ∙ sym (empty_value xs ys none) ∙ fine))
+            (whole ∙ ap₂ (λ a b. codes "--" ++ a ++ 61 ∷ b) here there, rw (← here, none) refl)
+
+attached_word : (w name value : Text) → long_of w ≡ Some (name, Some value) → is_empty_option w ≡ false
+    → (w ≡ codes "--" ++ name ++ 61 ∷ value) × (is_name name ≡ true) × (0 < length value)
+attached_word w name value e good =
+    let (same, named) = attached_cut w name value e in
+    let fine : has_empty_value (name ++ 61 ∷ value) ≡ false = sym (ap is_empty_option same) ∙ good in
+    (same, named, some_bytes value (sym (empty_value name value (not_true _ named)) ∙ fine))
 
 plain_word : (w : Text) → long_of w ≡ None → short_of w ≡ None → is_refused_first w ≡ false → is_plain w ≡ true
 plain_word [] lw sw passes = absurd (false≢true (sym passes))

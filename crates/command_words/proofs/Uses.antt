@@ -13,7 +13,7 @@ use Rattle.clap.specs.Walk.{Text}
 use Rattle.command_words.specs.Usages.{Slot, Usage, different, fits, is_among, is_sound, names_of}
 use Rattle.command_words.specs.Words.{Item, plain, option, is_use, names_in, option_fits, options_in, plains_fit, plains_in, slot_named}
 use Rattle.command_words.specs.Rows.{has_name, values_in}
-use Rattle.command_words.proofs.Args.{are_different, ids_of, args_for, option_arg, flipped, place_after, plain_arg, plain_args, same_text}
+use Rattle.command_words.proofs.Args.{are_different, ids_of, args_for, option_arg, flipped, place_after, plain_args, same_text}
 use Rattle.command_words.proofs.Rows.{Given}
 use Rattle.command_words.proofs.Passing.{by_place, given_after, lacks, put, take_items, then_use}
 use Rattle.command_words.proofs.Bools.{and_false, or_true, or_end, or_false, or_assoc, and_both, not_true}

@@ -64,10 +64,10 @@ plain_value [] slots s (plain w ∷ items) diff none = rw (same_text s.name) ref
 plain_value (b ∷ before) slots s (plain w ∷ items) diff none =
     let (head, tail) = and_both (not (is_among b.name (names_of (before ++ s ∷ slots)))) _ diff in
     let later : is_among b.name (names_of before ++ s.name ∷ names_of slots) ≡ false =
-        sym (ap (is_among b.name) (map-append _ before (s ∷ slots))) ∙ not_true _ head in
+    sym (ap (is_among b.name) (map-append _ before (s ∷ slots))) ∙ not_true _ head in
     let there = (or_false _ _ (sym (list_any-append _ (names_of before) (s.name ∷ names_of slots)) ∙ later)).1 in
     let other : bytes_eq b.name s.name ≡ false =
-        flipped b.name s.name ∙ (or_false (bytes_eq s.name b.name) _ there).0 in
+    flipped b.name s.name ∙ (or_false (bytes_eq s.name b.name) _ there).0 in
     rw other (plain_value before slots s items tail none)
 plain_value [] slots s (option n v ∷ items) diff none =
     let (here, rest) = or_false (bytes_eq n s.name) _ none in
@@ -84,7 +84,7 @@ front [] ys d = refl
 front (x ∷ xs) ys d =
     let (head, tail) = and_both (not (is_among x (xs ++ ys))) _ d in
     let alone : is_among x xs ≡ false =
-        (or_false (is_among x xs) _ (sym (list_any-append _ xs ys) ∙ not_true _ head)).0 in
+    (or_false (is_among x xs) _ (sym (list_any-append _ xs ys) ∙ not_true _ head)).0 in
     rw alone (front xs ys tail)
 
 option_known : (u : Usage) (items : List Item) (t : Text) → list_all (option_fits u.options) (options_in items) ≡ true
@@ -125,9 +125,9 @@ pub place_value : (u : Usage) (items : List Item) (before slots : List Slot) (s 
 place_value u items before slots s sound used split =
     let diff = (and_both (different (names_of u.plains ++ names_of u.options)) _ sound).0 in
     let mine : is_among s.name (names_of u.plains) ≡ true =
-        ap (λ ps. is_among s.name (names_of ps)) split ∙ ap (is_among s.name)
-        (map-append _ before (s ∷ slots)) ∙ list_any-append _ (names_of before) (s.name ∷ names_of slots) ∙ rw
-        (same_text s.name) (or_true (is_among s.name (names_of before))) in
+    ap (λ ps. is_among s.name (names_of ps)) split ∙ ap (is_among s.name)
+    (map-append _ before (s ∷ slots)) ∙ list_any-append _ (names_of before) (s.name ∷ names_of slots) ∙ rw
+    (same_text s.name) (or_true (is_among s.name (names_of before))) in
     let other = apart (names_of u.plains) (names_of u.options) s.name diff mine in
     ap (λ ps. value_named s.name (values_in ps items)) split
     ∙ plain_value before slots s items
@@ -163,7 +163,7 @@ places_read u items sound used few before [] split =
     sym (drop_all (length before) (plains_in items) (omega arith))
 places_read u items sound used few before (s ∷ slots) split =
     let rest =
-        places_read u items sound used few (before ++ s ∷ []) slots (split ∙ sym (append_assoc before (s ∷ []) slots)) in
+    places_read u items sound used few (before ++ s ∷ []) slots (split ∙ sym (append_assoc before (s ∷ []) slots)) in
     let longer : length (before ++ s ∷ []) ≡ suc (length before) = length-append before (s ∷ []) ∙ omega arith in
     rw (rest, longer, first_value_in s.name (values_in u.plains items), place_value u items before slots s sound used split) (next_text (plains_in items) (length before))
 
@@ -172,7 +172,7 @@ pub words_read : (u : Usage) (items : List Item) → is_sound u ≡ true → is_
     → texts_of u.plains (rows_for (values_in u.plains items)) ≡ plains_in items
 words_read u items sound used =
     let fit =
-        (and_both (nat_le u.least (length (plains_in items))) _ (and_both (nat_le u.least (length (plains_in items)) && plains_fit u.plains (plains_in items)) _ used).0).1 in
+    (and_both (nat_le u.least (length (plains_in items))) _ (and_both (nat_le u.least (length (plains_in items)) && plains_fit u.plains (plains_in items)) _ used).0).1 in
     places_read u items sound used (fit_few u.plains (plains_in items) fit) [] u.plains refl
 
 -- ---- the options, read back by their names
@@ -184,7 +184,7 @@ only_if false o = None
 -- the value of a slot's name is that among all values
 pairs_value : (slots : List Slot) (values : List (Text × Text)) (name : Text) → different (names_of slots) ≡ true
     → value_named name (pairs_of slots (rows_for values))
-        ≡ only_if (is_among name (names_of slots)) (value_named name values)
+    ≡ only_if (is_among name (names_of slots)) (value_named name values)
 pairs_value [] values name diff = refl
 pairs_value (s ∷ slots) values name diff =
     let (head, tail) = and_both (not (is_among s.name (names_of slots))) _ diff in
@@ -194,16 +194,16 @@ pairs_value (s ∷ slots) values name diff =
     step : (b : Bool) → bytes_eq s.name name ≡ b → (o : Option Text) → value_named s.name values ≡ o
         → is_among s.name (names_of slots) ≡ false
         → value_named name (pairs_of slots (rows_for values))
-            ≡ only_if (is_among name (names_of slots)) (value_named name values)
+        ≡ only_if (is_among name (names_of slots)) (value_named name values)
         → value_named name (pair_then s.name o (pairs_of slots (rows_for values)))
-            ≡ only_if (b || is_among name (names_of slots)) (value_named name values)
+        ≡ only_if (b || is_among name (names_of slots)) (value_named name values)
     step true here (Some t) is other rest =
         let same : s.name ≡ name = (bytes_eq-Decides s.name name).0 here in
         rw here (sym is ∙ ap (λ n. value_named n values) same)
     step true here None is other rest =
         let same : s.name ≡ name = (bytes_eq-Decides s.name name).0 here in
         let none : is_among name (names_of slots) ≡ false =
-            subst (λ n. is_among n (names_of slots) ≡ false) same other in
+        subst (λ n. is_among n (names_of slots) ≡ false) same other in
         rest ∙ ap (λ b. only_if b (value_named name values)) none ∙ sym is ∙ ap (λ n. value_named n values) same
     step false here (Some t) is other rest = rw here rest
     step false here None is other rest = rest

@@ -5,7 +5,6 @@ use Rattle.std.proofs.lemmas.Bool.{false≢true}
 use Rattle.std.proofs.lemmas.Option.{same_Some}
 use Rattle.std.specs.List.{list_any}
 use Rattle.std.specs.Str.{chars}
-use Rattle.std.specs.Bool.{if◌then◌else◌}
 use Rattle.clap.specs.Lexer.{long_of, short_of}
 use Rattle.clap.specs.Walk.{plain_word, Held, Row, Rule, Text, Waiting, idle, value, Walk, after_flag, after_step, arg_by_id, arg_by_index, arg_by_long, has_short, long_met, used, with_default, nothing_held, rows_after, settled, finished, walked}
 use Rattle.clap.specs.Walk.{option as waits_for}
@@ -138,7 +137,7 @@ module _ (name : Text) (args : List Arg) (different : are_different args ≡ tru
   record Behind (ws : List Text) (items : Items) (rest : Rest) : Type 0 where
     at_idle : (given : Given) (p : Pending) (i : ℕ) → IsKnownPending p
         → empty (total (walk_at given (pend p) idle i) ws)
-            ≡ (settle_of given p && all_items (λ is. take_items args is (after given p) i) items)
+        ≡ (settle_of given p && all_items (λ is. take_items args is (after given p) i) items)
     at_wait : (given : Given) (a : Arg) (i : ℕ) → IsKnown a
         → empty (total (walk_at given (Some (a.id, [])) (waits_for a.id) i) ws) ≡ value_next args (Some a) given i rest
 
@@ -168,7 +167,7 @@ module _ (name : Text) (args : List Arg) (different : are_different args ≡ tru
   bares : (a : Arg) (given : Given) (p : Pending) (i : ℕ) (word : Text) (ws : List Text) (items : Items) (rest : Rest)
       → Behind ws items rest → IsKnownPending p → IsKnown a
       → empty (long_turned (Some (rule_at a)) None (walk_at given (pend p) idle i) word ws)
-          ≡ (settle_of given p && value_next args (Some a) (after given p) i rest)
+      ≡ (settle_of given p && value_next args (Some a) (after given p) i rest)
   bares a given p i word ws items rest behind known is =
       rw (or_else_end _) (both_pass _ _ _ _ (settles given p known) (λ ok. rw (settled_are given p known ok) (behind.at_wait (after given p) a i is)))
 
@@ -181,7 +180,7 @@ module _ (name : Text) (args : List Arg) (different : are_different args ≡ tru
   long_cases : (o : Option Arg) (long : Text) (v : Option Text) (given : Given) (p : Pending) (i : ℕ) (word : Text) (ws : List Text) (items : Items) (rest : Rest)
       → by_long args long ≡ o → Behind ws items rest → IsKnownPending p
       → empty (long_turned (option_map rule_at o) v (walk_at given (pend p) idle i) word ws)
-          ≡ (settle_of given p && all_items (λ is. take_items args is (after given p) i) (items_by (long_form long v) word items rest))
+      ≡ (settle_of given p && all_items (λ is. take_items args is (after given p) i) (items_by (long_form long v) word items rest))
   long_cases None long (Some v) given p i word ws items rest o behind known =
       rw (option_more args long v items (after given p) i, o) (sym (and_false _))
   long_cases None long None given p i word ws items rest o behind known =
@@ -214,7 +213,7 @@ module _ (name : Text) (args : List Arg) (different : are_different args ≡ tru
   plain_cases : (o : Option Arg) (given : Given) (p : Pending) (i : ℕ) (word : Text) (ws : List Text) (items : Items) (rest : Rest)
       → by_place args i ≡ o → Behind ws items rest → IsKnownPending p
       → empty (plain_turned (walk_at given (pend p) idle i) word ws)
-          ≡ (settle_of given p && all_items (λ is. take_items args is (after given p) i) (more (plain word) items))
+      ≡ (settle_of given p && all_items (λ is. take_items args is (after given p) i) (more (plain word) items))
   plain_cases None given p i word ws items rest o behind known =
       rw (plain_more args word items (after given p) i, rule_by_place i, o) (sym (and_false _))
   plain_cases (Some a) given p i word ws items rest o behind known =
@@ -227,7 +226,7 @@ module _ (name : Text) (args : List Arg) (different : are_different args ≡ tru
   idle_tested : (l : Option (Text × Option Text)) (short : Option Text) (given : Given) (p : Pending) (i : ℕ) (word : Text) (ws : List Text) (items : Items) (rest : Rest)
       → long_of word ≡ l → short_of word ≡ short → IsWord word → Behind ws items rest → IsKnownPending p
       → empty (turned (walk_at given (pend p) idle i) word ws)
-          ≡ (settle_of given p && all_items (λ is. take_items args is (after given p) i) (items_by (form_by l short) word items rest))
+      ≡ (settle_of given p && all_items (λ is. take_items args is (after given p) i) (items_by (form_by l short) word items rest))
   unfolding walked
   idle_tested (Some (long, v)) short given p i word ws items rest lw sw is behind known =
       rw (is.not_dashes, lw, rule_by_long long) (long_cases (by_long args long) long v given p i word ws items rest refl behind known)
@@ -269,7 +268,7 @@ module _ (name : Text) (args : List Arg) (different : are_different args ≡ tru
   wait_tested : (l : Option (Text × Option Text)) (short : Option Text) (given : Given) (a : Arg) (i : ℕ) (word : Text) (ws : List Text) (items : Items) (rest : Rest)
       → long_of word ≡ l → short_of word ≡ short → IsWord word → Behind ws items rest → IsKnown a
       → empty (turned (wait_at given a i) word ws)
-          ≡ value_next args (Some a) given i (rest_by (form_by l short) word items)
+      ≡ value_next args (Some a) given i (rest_by (form_by l short) word items)
   unfolding walked
   wait_tested (Some (long, v)) short given a i word ws items rest lw sw is behind known =
       rw (is.not_dashes, lw, rule_by_long long, long_is_no_value long v word items) (wait_long (by_long args long) v given a i word ws known)
@@ -335,7 +334,7 @@ module _ (name : Text) (args : List Arg) (different : are_different args ≡ tru
   walked_plain : (a : Arg) (word : Text) (given : Given) (p : Pending) (i : ℕ) → long_of word ≡ None
       → short_of word ≡ None → IsWord word → by_place args i ≡ Some a → IsKnownPending p → settle_of given p ≡ true
       → walked rules [] (walk_at given (pend p) idle i) word
-          ≡ walk_at (after given p) (Some (a.id, word ∷ [])) idle (place_after i)
+      ≡ walk_at (after given p) (Some (a.id, word ∷ [])) idle (place_after i)
   unfolding walked
   walked_plain a word given p i lw sw is o known ok =
       rw (is.not_dashes, lw, sw, rule_by_place i, o, and_false _, settled_are given p known ok) refl
@@ -351,7 +350,7 @@ module _ (name : Text) (args : List Arg) (different : are_different args ≡ tru
       → Leaves ws items rest → items ≡ Some js
       → (settle_of given p && then_use o v (after given p) (λ g. take_items args js g i)) ≡ true
       → left (walked rules [] (walk_at given (pend p) idle i) word) ws
-          ≡ rows_for (given_after args js (put o v (after given p)) i)
+      ≡ rows_for (given_after args js (put o v (after given p)) i)
   joined_leaves None long v word given p i ws items rest js o lw is known behind e t =
       absurd (false≢true (and_both (settle_of given p) false t).1)
   joined_leaves (Some a) long v word given p i ws items rest js o lw is known behind e t =
@@ -365,7 +364,7 @@ module _ (name : Text) (args : List Arg) (different : are_different args ≡ tru
       → rest ≡ Some r
       → (settle_of given p && then_use o r.0 (after given p) (λ g. take_items args r.1 g i)) ≡ true
       → left (walked rules [] (walk_at given (pend p) idle i) word) ws
-          ≡ rows_for (given_after args r.1 (put o r.0 (after given p)) i)
+      ≡ rows_for (given_after args r.1 (put o r.0 (after given p)) i)
   alone_leaves None long word given p i ws items rest r o lw is known behind e t =
       absurd (false≢true (and_both (settle_of given p) false t).1)
   alone_leaves (Some a) long word given p i ws items rest r o lw is known behind e t =
@@ -378,7 +377,7 @@ module _ (name : Text) (args : List Arg) (different : are_different args ≡ tru
       → Leaves ws items rest → items ≡ Some js
       → (settle_of given p && then_use o word (after given p) (λ g. take_items args js g (place_after i))) ≡ true
       → left (walked rules [] (walk_at given (pend p) idle i) word) ws
-          ≡ rows_for (given_after args js (put o word (after given p)) (place_after i))
+      ≡ rows_for (given_after args js (put o word (after given p)) (place_after i))
   plain_leaves None word given p i ws items rest js o lw sw is known behind e t =
       absurd (false≢true (and_both (settle_of given p) false t).1)
   plain_leaves (Some a) word given p i ws items rest js o lw sw is known behind e t =
@@ -391,7 +390,7 @@ module _ (name : Text) (args : List Arg) (different : are_different args ≡ tru
       → items_by (form_by l short) word items rest ≡ Some is
       → (settle_of given p && take_items args is (after given p) i) ≡ true
       → left (walked rules [] (walk_at given (pend p) idle i) word) ws
-          ≡ rows_for (given_after args is (after given p) i)
+      ≡ rows_for (given_after args is (after given p) i)
   idle_leaves (Some (long, Some v)) short word given p i ws items rest is lw sw text known behind e =
       from_more (option long v) items is
       (λ is. (settle_of given p && take_items args is (after given p) i) ≡ true → left (walked rules [] (walk_at given (pend p) idle i) word) ws ≡ rows_for (given_after args is (after given p) i)) e
@@ -411,7 +410,7 @@ module _ (name : Text) (args : List Arg) (different : are_different args ≡ tru
       → rest_by (form_by l short) word items ≡ Some r
       → then_use (Some a) r.0 given (λ g. take_items args r.1 g i) ≡ true
       → left (walked rules [] (wait_at given a i) word) ws
-          ≡ rows_for (given_after args r.1 (given ++ (a.id, r.0) ∷ []) i)
+      ≡ rows_for (given_after args r.1 (given ++ (a.id, r.0) ∷ []) i)
   wait_leaves (Some (long, Some v)) short word given a i ws items rest r lw sw text known behind e = cc
   wait_leaves (Some (long, None)) short word given a i ws items rest r lw sw text known behind e = cc
   wait_leaves None (Some flags) word given a i ws items rest r lw sw text known behind e = cc

@@ -44,7 +44,7 @@ fn matches_of<'a>(
 
 /// The row of this name.
 #[tactic(auto, using(std::proofs::lemmas::List::drop_more))]
-fn row_named<'a>(rows: &'a [CommandRow<'a>], name: &str) -> Option<&'a CommandRow<'a>>
+pub(crate) fn row_named<'a>(rows: &'a [CommandRow<'a>], name: &str) -> Option<&'a CommandRow<'a>>
     ensures { option_map (λ row. usage_of row.now) result ≡ usage_named (map usage_of rows.now) name.now }
 {
     for row in rows {

@@ -1,110 +1,112 @@
 -- How a run ends.
-use Rattle.std.specs.Prelude.{◌≡◌, ℕ, List, Option, Some, None, Ok, Err, IsSome, codes}
-use Rattle.recover_fraction.specs.declared.recovery.Fraction.{Fraction}
-use Rattle.problem.specs.Rules.{ProblemView}
-use Rattle.report.specs.Outcome.{IsDone, IsNoInverse}
-use Rattle.report.specs.Fractions.{AreFractions, FindSums}
-use Rattle.report.specs.Texts.{done_text, no_inverse_text}
-use Rattle.report.specs.Report.{IsReport, done_status}
+use Rattle.std.specs.Prelude.{◌≡◌, ℕ, List, [], Option, Some, Err, codes}
 use Rattle.problem_toml.specs.Reading.{reading}
 use Rattle.problem_toml.specs.declared.error.ProblemError.{ProblemError}
+use Rattle.checkpoint.specs.Refusals.{IsRefusal}
+use Rattle.checkpoint.specs.declared.error.CheckpointError.{CheckpointError}
 use Rattle.command_words.specs.Words.{AreRefusedFirst}
-use Rattle.locus_core.specs.Words.{file_named}
-use Rattle.locus_core.specs.Texts.{refused_line}
-use Rattle.locus_core.specs.Outside.{Change, Unchanged, FilesState, SinkState, Holds, HasFaultAt, Takes, BreaksOff, Tells}
+use Rattle.command_line.specs.Requests.{Request, Sum, run, resume}
+use Rattle.locus_core.specs.Words.{AsksFor, AskNothing}
+use Rattle.locus_core.specs.Texts.{refused_line, refused_checkpoint_line}
+use Rattle.locus_core.specs.Outside.{Change, Unchanged, FilesState, StopperState, SinkState, Holds, HasFaultAt, Takes, BreaksOff, Tells}
+use Rattle.locus_core.specs.Comes.{Comes, file_of_request, MayHaveStopped}
 
--- a run as it is seen from outside: its words, its files, the output and standard error
+-- A run as it is seen from outside: its words, its files, the output, standard error and the stopper, and how many blocks
+-- each worker worked.
 pub record Run : Type 0 where
   pub words : List (List ℕ)
   pub files : Change FilesState
   pub out : Change SinkState
   pub err : Change SinkState
+  pub stopper : Change StopperState
+  pub shares : List ℕ
 
--- A run begins with a problem: its words name a file, the file was read, and its bytes write this problem.
-pub record Begins (run : Run) (problem : ProblemView) : Type 0 where
-  pub name : List ℕ
-  pub bytes : List ℕ
-  pub words : file_named run.words ≡ Some name
-  pub file : Holds run.files name bytes
-  pub reads : reading bytes ≡ Ok problem
+-- nothing was summed, nothing was printed, and nobody asked for a stop
+pub record IsIdle (run : Run) : Type 0 where
+  pub out : Unchanged run.out
+  pub stopper : Unchanged run.stopper
+  pub shares : run.shares ≡ []
+
+-- What the words ask for came to this text, which was printed whole.
+pub record Printed (run : Run) (status : ℕ) : Type 0 where
+  pub request : Request
+  pub text : List ℕ
+  pub words : AsksFor run.words request
+  pub comes : Comes run.files run.stopper run.shares request status text
   pub files : Unchanged run.files
+  pub out : Takes run.out text
+  pub err : Unchanged run.err
 
--- The words name no file. A text is told, which is `words refused` if a word is refused at the first look.
+-- The words ask for nothing. A text is told, which is `words refused` if a word is refused at the first look.
 pub record WordsRefused (run : Run) : Type 0 where
-  pub words : file_named run.words ≡ None
+  pub words : AskNothing run.words
   pub text : List ℕ
   pub first_look : AreRefusedFirst run.words → text ≡ codes "words refused\n"
   pub files : Unchanged run.files
-  pub out : Unchanged run.out
+  pub idle : IsIdle run
   pub err : Tells run.err text
 
--- The file that the words name was not read: the files counted a fault at its name.
-pub record ReadFault (run : Run) : Type 0 where
-  pub name : List ℕ
-  pub words : file_named run.words ≡ Some name
-  pub files : HasFaultAt run.files name
-  pub out : Unchanged run.out
-  pub err : Tells run.err (codes "read fault\n")
-
--- The file that the words name was read, and its bytes write no problem. The first rule that they break is told.
-pub record ProblemRefused (run : Run) : Type 0 where
-  pub name : List ℕ
+-- The file of a sum was read, and its bytes write no problem. The first rule that they break is told.
+pub record ProblemRefused (r : Run) : Type 0 where
+  pub sum : Sum
   pub bytes : List ℕ
   pub error : ProblemError
-  pub words : file_named run.words ≡ Some name
-  pub file : Holds run.files name bytes
+  pub words : AsksFor r.words (run sum)
+  pub file : Holds r.files sum.file bytes
   pub refused : reading bytes ≡ Err error
-  pub files : Unchanged run.files
-  pub out : Unchanged run.out
-  pub err : Tells run.err (refused_line error)
+  pub files : Unchanged r.files
+  pub idle : IsIdle r
+  pub err : Tells r.err (refused_line error)
 
--- No decorated tree is bad. For each integral the residues of Kontsevich's sum are printed, and the only fraction that
--- agrees with them, or that there is none. If the sum in lowest terms lies within the bounds, it is that fraction.
-pub record Done (run : Run) : Type 0 where
-  pub problem : ProblemView
-  pub residues : List ℕ
-  pub fractions : List (Option Fraction)
-  pub begins : Begins run problem
-  pub done : IsDone problem residues
-  pub agree : AreFractions problem residues fractions
-  pub sums : FindSums problem fractions
-  pub out : Takes run.out (done_text problem residues fractions)
-  pub err : Unchanged run.err
+-- The file of a paused sum was read, and its bytes are the text of no state. Their first refusal is told.
+pub record CheckpointRefused (r : Run) : Type 0 where
+  pub sum : Sum
+  pub bytes : List ℕ
+  pub error : CheckpointError
+  pub words : AsksFor r.words (resume sum)
+  pub file : Holds r.files sum.file bytes
+  pub refused : IsRefusal bytes error
+  pub files : Unchanged r.files
+  pub idle : IsIdle r
+  pub err : Tells r.err (refused_checkpoint_line error)
 
--- Some decorated tree is bad. The least such tree is named, and the first modulus for which it is bad.
-pub record NoInverse (run : Run) : Type 0 where
-  pub problem : ProblemView
-  pub number : ℕ
-  pub place : ℕ
-  pub begins : Begins run problem
-  pub no_inverse : IsNoInverse problem number place
-  pub out : Takes run.out (no_inverse_text problem number place)
-  pub err : Unchanged run.err
+-- The file that is asked for was not read: the files counted a fault at its name.
+pub record ReadFault (run : Run) : Type 0 where
+  pub request : Request
+  pub name : List ℕ
+  pub words : AsksFor run.words request
+  pub asked : file_of_request request ≡ Some name
+  pub files : HasFaultAt run.files name
+  pub idle : IsIdle run
+  pub err : Tells run.err (codes "read fault\n")
 
--- The output did not take the whole text of what the sum comes to: it counted a fault.
+-- The output did not take the whole text of what the words ask for: it counted a fault.
 pub record WriteFault (run : Run) : Type 0 where
-  pub problem : ProblemView
+  pub request : Request
   pub status : ℕ
   pub text : List ℕ
-  pub begins : Begins run problem
-  pub report : IsReport problem status text
+  pub words : AsksFor run.words request
+  pub comes : Comes run.files run.stopper run.shares request status text
+  pub files : Unchanged run.files
   pub out : BreaksOff run.out text
   pub err : Tells run.err (codes "write fault\n")
 
--- Memory was refused. Nothing says when this comes, but that the words name a file and that nothing is printed.
+-- Memory was refused. Nothing says when this comes, but that the words ask for something and that nothing is printed.
 pub record WantOfMemory (run : Run) : Type 0 where
-  pub words : IsSome (file_named run.words)
+  pub request : Request
+  pub words : AsksFor run.words request
   pub files : Unchanged run.files
+  pub stopper : MayHaveStopped request run.stopper
   pub out : Unchanged run.out
+  pub shares : run.shares ≡ []
   pub err : Tells run.err (codes "want of memory\n")
 
--- A run ends in one of these ways, and its status says in which: a run that is done has status 0 if each integral has
--- its fraction, otherwise 1.
+-- A run ends in one of these ways, and its status says in which.
 pub data Ends (run : Run) (status : ℕ) : Type 0 where
-  done : (d : Done run) → status ≡ done_status d.fractions → Ends run status
+  printed : Printed run status → Ends run status
   words_refused : status ≡ 2 → WordsRefused run → Ends run status
   problem_refused : status ≡ 3 → ProblemRefused run → Ends run status
-  no_inverse : status ≡ 4 → NoInverse run → Ends run status
   read_fault : status ≡ 6 → ReadFault run → Ends run status
   write_fault : status ≡ 7 → WriteFault run → Ends run status
+  checkpoint_refused : status ≡ 8 → CheckpointRefused run → Ends run status
   want_of_memory : status ≡ 9 → WantOfMemory run → Ends run status

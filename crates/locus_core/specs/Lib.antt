@@ -1,6 +1,7 @@
 pub mod Words
 pub mod Texts
 pub mod Outside
+pub mod Begins
+pub mod Comes
 pub mod Ends
 pub mod Steps
-pub mod Statuses

@@ -1,4 +1,4 @@
--- What a run does to its files and to its sinks.
+-- What a run does to its files, to its sinks and to its stopper.
 use Rattle.std.specs.Prelude.{◌≡◌, ◌⊎◌, ℕ, List, Bool, Option, Some, IfSome, IsTrue}
 use Rattle.locus_io.specs.Causes.{Rose, RoseBy}
 use Rattle.locus_io.specs.Content.{NamedFiles, file_of, Appends, AppendsFront}
@@ -24,6 +24,11 @@ pub record SinkState : Type 0 where
   pub is_flushed : Bool
   pub faults : ℕ
 
+-- a stopper: how many stops it counted, and the name of the last
+pub record StopperState : Type 0 where
+  pub stops : ℕ
+  pub last_stop : Option (List ℕ)
+
 -- files before and after a run, by what their type tells of them
 abbrev pub files_change : {F : Type 0} → (F → Option NamedFiles) → (F → ℕ) → (F → Option (List ℕ)) → F → F → Change FilesState
 files_change content faults last_fault old new = record {
@@ -37,6 +42,17 @@ sink_change written is_flushed faults old new = record {
   before = record { written = written old; is_flushed = is_flushed old; faults = faults old };
   after = record { written = written new; is_flushed = is_flushed new; faults = faults new };
 }
+
+-- a stopper before and after a run, by what its type tells of it
+abbrev pub stopper_change : {S : Type 0} → (S → ℕ) → (S → Option (List ℕ)) → S → S → Change StopperState
+stopper_change stops last_stop old new = record {
+  before = record { stops = stops old; last_stop = last_stop old };
+  after = record { stops = stops new; last_stop = last_stop new };
+}
+
+-- the stopper counted a stop, and the last was under this name
+abbrev pub HasStopped : Change StopperState → List ℕ → Type 0
+HasStopped stopper name = RoseBy stopper.before.stops stopper.after.stops name stopper.after.last_stop
 
 -- a file of this name is there and has these bytes, if the files tell what they hold
 abbrev pub Holds : Change FilesState → List ℕ → List ℕ → Type 0

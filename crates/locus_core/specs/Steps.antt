@@ -1,42 +1,95 @@
 -- The steps of a run.
-use Rattle.std.specs.Prelude.{◌≡◌, ◌≢◌, ℕ, List, take, Some, None, Ok, IfSome, IsSome, option_map, codes}
+use Rattle.std.specs.Prelude.{◌≡◌, ◌≢◌, ℕ, suc, List, take, Option, Some, None, Result, Ok, Err, IfSome, IsSome, option_map, codes}
 use Rattle.command_words.specs.Words.{AreRefusedFirst}
+use Rattle.command_line.specs.Requests.{Request, Sum, run, resume, make, soak}
 use Rattle.locus_io.specs.Content.{file_of}
-use Rattle.problem.specs.Rules.{ProblemView}
-use Rattle.report.specs.Report.{IsReport}
 use Rattle.problem_toml.specs.Reading.{reading}
 use Rattle.problem_toml.specs.declared.error.ProblemError.{ProblemError}
-use Rattle.problem_toml.specs.declared.error.ProblemError.TheVariants.{NoMemory}
-use Rattle.locus_core.specs.Words.{file_named}
-use Rattle.locus_core.specs.Texts.{refused_line}
-use Rattle.locus_core.specs.Outside.{Change, Unchanged, FilesState, SinkState, Takes, BreaksOff, Tells}
+use Rattle.checkpoint.specs.Refusals.{IsRefusal}
+use Rattle.checkpoint.specs.declared.error.CheckpointError.{CheckpointError}
+use Rattle.rounds.specs.declared.progress.Outcome.{Outcome}
+use Rattle.rounds.specs.declared.progress.Outcome.TheVariants.{Done, Paused, NoInverse}
+use Rattle.problem.specs.Rules.{ProblemView}
+use Rattle.report.specs.Report.{IsDoneReport}
+use Rattle.report.specs.Texts.{no_inverse_text}
+use Rattle.locus_core.specs.Words.{AsksFor, AskNothing}
+use Rattle.locus_core.specs.Texts.{refused_line, refused_checkpoint_line}
+use Rattle.locus_core.specs.Outside.{Change, Unchanged, FilesState, StopperState, SinkState, Holds, HasFaultAt, Takes, BreaksOff, Tells}
+use Rattle.locus_core.specs.Begins.{Beginning}
+use Rattle.locus_core.specs.Comes.{Sums, IsAnswer, Comes, file_of_request, MayHaveStopped}
+use Rattle.locus_core.specs.declared.work.Printable.{Printable}
+use Rattle.locus_core.specs.declared.work.Refusal.{Refusal}
+use Rattle.locus_core.specs.declared.work.Refusal.TheVariants as refusal
 
--- the bytes that are loaded of a file: one more than the longest problem text has
-unfoldable pub loaded : List ℕ → List ℕ
-loaded bytes = take 1048577 bytes
+-- the bytes that are loaded of a file: at most one more than may be read
+unfoldable pub loaded : ℕ → List ℕ → List ℕ
+loaded most bytes = take (suc most) bytes
 
 -- these bytes were loaded of the file of a name, if the files tell what they hold
-abbrev pub Loads : Change FilesState → List ℕ → List ℕ → Type 0
-Loads files name bytes = IfSome files.before.content (λ told. option_map loaded (file_of name told) ≡ Some bytes)
+abbrev pub Loads : ℕ → Change FilesState → List ℕ → List ℕ → Type 0
+Loads most files name bytes = IfSome files.before.content (λ told. option_map (loaded most) (file_of name told) ≡ Some bytes)
 
--- the status and the text of what the sum of the problem of these bytes comes to
-pub record Reports (bytes : List ℕ) (status : ℕ) (text : List ℕ) : Type 0 where
-  pub problem : ProblemView
-  pub reads : reading bytes ≡ Ok problem
-  pub report : IsReport problem status text
+-- what rounds from a beginning on come to
+pub record Continues (b : Beginning) (stopper : Change StopperState) (shares : List ℕ) (status : ℕ) (text : List ℕ) : Type 0 where
+  pub outcome : Outcome
+  pub sums : Sums b stopper shares outcome
+  pub answer : IsAnswer b outcome status text
 
--- the text of a report was written whole and its status is the answer, or status 7 tells that it was not
+-- the outcome is no pause
+abbrev pub IsEnd : Outcome → Type 0
+IsEnd (Done residues) = Unit {0}
+IsEnd (Paused next residues) = ⊥
+IsEnd (NoInverse number modulus) = Unit {0}
+
+-- the status and the text of an outcome that is no pause
+abbrev pub IsReportOf : ProblemView → Outcome → ℕ → List ℕ → Type 0
+IsReportOf p (Done residues) status text = IsDoneReport p residues status text
+IsReportOf p (Paused next residues) status text = ⊥
+IsReportOf p (NoInverse number modulus) status text = (status ≡ 4) × (text ≡ no_inverse_text p number modulus)
+
+-- the request is one of the four that are built
+abbrev pub IsBuilt : Request → Type 0
+IsBuilt (run s) = Unit {0}
+IsBuilt (resume s) = Unit {0}
+IsBuilt (make number) = Unit {0}
+IsBuilt (soak number workers) = Unit {0}
+IsBuilt _ = ⊥
+
+-- why nothing is printed of a request
+pub data WhyNot (request : Request) (files : Change FilesState) (stopper : Change StopperState) : Refusal → Type 0 where
+  read_fault : (name : List ℕ) → file_of_request request ≡ Some name → HasFaultAt files name → Unchanged stopper
+      → WhyNot request files stopper refusal.ReadFault
+  problem : (s : Sum) (bytes : List ℕ) (error : ProblemError) → request ≡ run s → Holds files s.file bytes
+      → reading bytes ≡ Err error → Unchanged files → Unchanged stopper → WhyNot request files stopper (refusal.Problem error)
+  checkpoint : (s : Sum) (bytes : List ℕ) (error : CheckpointError) → request ≡ resume s → Holds files s.file bytes
+      → IsRefusal bytes error → Unchanged files → Unchanged stopper → WhyNot request files stopper (refusal.Checkpoint error)
+  no_memory : Unchanged files → MayHaveStopped request stopper → WhyNot request files stopper refusal.NoMemory
+
+-- what a request comes to, before anything is written
+abbrev pub IsWork : Request → Change FilesState → Change StopperState → Result Printable Refusal → Type 0
+IsWork request files stopper (Ok p) = Unchanged files × Comes files stopper p.shares request p.status p.text.items
+IsWork request files stopper (Err r) = WhyNot request files stopper r
+
+-- the text was written whole and its status is the answer, or status 7 tells that it was not
 pub data Prints (out err : Change SinkState) (status : ℕ) (text : List ℕ) (answer : ℕ) : Type 0 where
   whole : answer ≡ status → Takes out text → Unchanged err → Prints out err status text answer
   broken : answer ≡ 7 → BreaksOff out text → Tells err (codes "write fault\n") → Prints out err status text answer
 
--- the rule that a text breaks is told with status 3, or want of memory with status 9
-pub data Refuses (error : ProblemError) (err : Change SinkState) (answer : ℕ) : Type 0 where
-  refused : answer ≡ 3 → error ≢ NoMemory → Tells err (refused_line error) → Refuses error err answer
-  unheard : answer ≡ 9 → Tells err (codes "want of memory\n") → Refuses error err answer
+-- a refusal is told with its status, or want of memory with status 9
+pub data Refuses (err : Change SinkState) (answer : ℕ) : Refusal → Type 0 where
+  read_fault : answer ≡ 6 → Tells err (codes "read fault\n") → Refuses err answer refusal.ReadFault
+  problem : (error : ProblemError) → answer ≡ 3 → Tells err (refused_line error) → Refuses err answer (refusal.Problem error)
+  checkpoint : (error : CheckpointError) → answer ≡ 8 → Tells err (refused_checkpoint_line error)
+      → Refuses err answer (refusal.Checkpoint error)
+  no_memory : answer ≡ 9 → Tells err (codes "want of memory\n") → Refuses err answer refusal.NoMemory
+  unheard_problem : (error : ProblemError) → answer ≡ 9 → Tells err (codes "want of memory\n")
+      → Refuses err answer (refusal.Problem error)
+  unheard_checkpoint : (error : CheckpointError) → answer ≡ 9 → Tells err (codes "want of memory\n")
+      → Refuses err answer (refusal.Checkpoint error)
 
--- a text is told with status 2 of words that name no file, or want of memory with status 9
+-- a text is told with status 2 of words that ask for nothing, or want of memory with status 9
 pub data RefusesWords (words : List (List ℕ)) (err : Change SinkState) (answer : ℕ) : Type 0 where
-  nameless : (text : List ℕ) → answer ≡ 2 → file_named words ≡ None → (AreRefusedFirst words → text ≡ codes "words refused\n") → Tells err text
+  nothing_asked : (text : List ℕ) → answer ≡ 2 → AskNothing words → (AreRefusedFirst words → text ≡ codes "words refused\n")
+      → Tells err text → RefusesWords words err answer
+  unread : (request : Request) → answer ≡ 9 → AsksFor words request → Tells err (codes "want of memory\n")
       → RefusesWords words err answer
-  unread : answer ≡ 9 → IsSome (file_named words) → Tells err (codes "want of memory\n") → RefusesWords words err answer

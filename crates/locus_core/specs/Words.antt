@@ -1,9 +1,13 @@
 -- The words of the command line.
-use Rattle.std.specs.Prelude.{ℕ, List, [], ◌∷◌, Option, Some, None, codes, if◌then◌else◌}
-use Rattle.std.specs.Str.{bytes_eq}
-use Rattle.command_words.specs.Usages.{is_plain}
+use Rattle.std.specs.Prelude.{ℕ, List}
+use Rattle.command_line.specs.declared.table.Commands.TheVariants.{Built}
+use Rattle.command_line.specs.Asked.{Asks}
+use Rattle.command_line.specs.Requests.{Request}
 
--- the name of the file, where the words are any first word, `run` and a plain word
-abbrev pub file_named : List (List ℕ) → Option (List ℕ)
-file_named (program ∷ command ∷ file ∷ []) = if bytes_eq command (codes "run") then (if is_plain file then Some file else None) else None
-file_named _ = None
+-- the words ask for this, by the commands of the program: `run`, `resume`, `make` and `soak`
+abbrev pub AsksFor : List (List ℕ) → Request → Type 0
+AsksFor words request = Asks Built words request
+
+-- they ask for nothing
+abbrev pub AskNothing : List (List ℕ) → Type 0
+AskNothing words = (request : Request) → ¬ AsksFor words request

@@ -1,43 +1,33 @@
-//! Reading the words of the command line.
+//! Words that are refused.
 
-ghost use Rattle.std.specs.Prelude.{◌≡◌, ◌≢◌, map, is_some, string_bytes, IfOk, IfErr, Some, None};
-ghost use Rattle.command_words.specs.Usages.{is_plain};
+ghost use Rattle.std.specs.Prelude.{◌≡◌, ◌≢◌, ◌↔◌, map, string_bytes, IsTrue, []};
 ghost use Rattle.command_words.specs.Words.{AreRefusedFirst};
-ghost use Rattle.locus_core.specs.Words.{file_named};
+ghost use Rattle.command_words.specs.Taken.{IsRefusal, AreTaken};
+ghost use Rattle.command_line.specs.Table.{table_of_commands};
+ghost use Rattle.locus_core.specs.Outside.{sink_change};
+ghost use Rattle.locus_core.specs.Steps.{RefusesWords};
 
-use command_line::{Command, Commands, WordsError, read};
-use std::alloc::Global;
+use crate::printing::end;
+use crate::top::Answer;
+use command_line::{Commands, WordsError};
+use locus_io::Sink;
 
-/// Whether a word is not empty and does not begin with `-`.
-fn is_plain_word(word: &str) -> bool
-    ensures { result ≡ is_plain word.now }
+/// Ends a run whose words ask for nothing, or were not read for want of memory: the words alone tell which it is.
+pub(crate) fn refuse_words<E: Sink>(err: &mut E, words: &[String], error: WordsError) -> Answer
+    requires { IsRefusal (table_of_commands Commands.Built) (map string_bytes words.now) error }
+    ensures refuses { RefusesWords (map string_bytes words.now) (sink_change E.written E.is_flushed E.faults err.old err.new)
+        result.status }
+    ensures shares { result.shares ≡ [] }
 {
-    match word.as_bytes() {
-        [] => false,
-        [first, ..] => *first != b'-',
+    match error {
+        WordsError::ByCommand(text) => end(err, 2, text.as_bytes()),
+        WordsError::NoMemory if are_taken(words) => end(err, 9, b"want of memory\n"),
+        WordsError::NoMemory | WordsError::Refused => end(err, 2, b"words refused\n"),
     }
 }
 
-/// Whether the words are any first word, `run` and a plain word. It takes no memory, so it tells whether words are
-/// refused if there was none to read them.
-pub(crate) fn name_a_file(words: &[String]) -> bool
-    ensures { result ≡ is_some (file_named (map string_bytes words.now)) }
+fn are_taken(words: &[String]) -> bool
+    ensures { IsTrue result ↔ AreTaken (table_of_commands Commands.Built) (map string_bytes words.now) }
 {
-    match words {
-        [_, command, file] => command.as_str() == "run" && is_plain_word(file.as_str()),
-        _ => false,
-    }
-}
-
-/// The name of the file, if the words are any first word, `run` and a plain word.
-pub(crate) fn file_name<'a>(alloc: Global, words: &'a [String]) -> Result<&'a str, WordsError>
-    ensures ok { IfOk result (λ name. file_named (map string_bytes words.now) ≡ Some name.now) }
-    ensures err { IfErr result (λ error. error ≢ WordsError.NoMemory → file_named (map string_bytes words.now) ≡ None) }
-    ensures first_look { IfErr result (λ error. AreRefusedFirst (map string_bytes words.now) → error ≡ WordsError.Refused) }
-{
-    match read(alloc, Commands::Built, words) {
-        Ok(Command::Run(request)) => Ok(request.file),
-        Ok(_) => unreachable!(),
-        Err(error) => Err(error),
-    }
+    words.is_empty()
 }

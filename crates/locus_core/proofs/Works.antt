@@ -1,0 +1,73 @@
+-- What rounds come to is what a request comes to, by how the sum began.
+use Rattle.std.proofs.Common.{◌≡◌, ◌≢◌, ℕ, ◌+◌, ◌<◌, ◌≤◌, List, [], Option, Some, None, Result, Ok, Err, IsSome, IfSome, refl, sym, ap, ◌∙◌, subst, ◌⊎◌, inl, inr, ⊎_elim, arith}
+use Rattle.std.proofs.lemmas.Bool.{cases_lt}
+use Rattle.command_line.specs.Requests.{Request, Sum, run, resume, make, soak}
+use Rattle.problem.specs.Rules.{ProblemView, KeepsRules}
+use Rattle.problem_toml.specs.Generator.{generated_problem}
+use Rattle.problem_toml.specs.Reading.{reading, reading_of_any_length}
+use Rattle.problem_toml.specs.declared.error.ProblemError.{ProblemError}
+use Rattle.checkpoint.specs.States.{StateView, IsState, first_state, fresh_of}
+use Rattle.checkpoint.specs.Texts.{IsTextOf}
+use Rattle.checkpoint.specs.Refusals.{IsRefusal}
+use Rattle.checkpoint.specs.declared.error.CheckpointError.{CheckpointError}
+use Rattle.rounds.specs.Outcomes.{SumView, IsEarly}
+use Rattle.rounds.specs.declared.progress.Outcome.{Outcome}
+use Rattle.rounds.specs.declared.progress.Outcome.TheVariants.{Done, Paused, NoInverse}
+use Rattle.locus_core.specs.Outside.{Change, Unchanged, FilesState, StopperState, Holds, HasStopped}
+use Rattle.locus_core.specs.Begins.{Beginning, by_run, by_resume, by_soak, of_state, of_text, of_number, plan_of}
+use Rattle.locus_core.specs.Comes.{Comes, summed, made, MayHaveStopped}
+use Rattle.locus_core.specs.Steps.{Loads, Continues, WhyNot, problem, checkpoint, no_memory}
+use Rattle.locus_core.specs.declared.work.Refusal.TheVariants as refusal
+use Rattle.locus_core.proofs.Loading.{problem_read, problem_refused, checkpoint_read, checkpoint_refused}
+
+-- the first state of a text that reads as a problem
+fresh_parts : (bytes : List ℕ) (state : StateView) → fresh_of bytes ≡ Ok state
+    → (p : ProblemView) × (reading bytes ≡ Ok p) × (first_state bytes p ≡ state)
+unfolding fresh_of
+fresh_parts bytes state e = by_reading (reading bytes) refl e
+  where
+    by_reading : (r : Result ProblemView ProblemError) → reading bytes ≡ r → fresh_of bytes ≡ Ok state
+        → (p : ProblemView) × (reading bytes ≡ Ok p) × (first_state bytes p ≡ state)
+    by_reading (Ok p) is e = (p, is, let whole : fresh_of bytes ≡ Ok (first_state bytes p) = rw is refl in cc)
+    by_reading (Err error) is e = let whole : fresh_of bytes ≡ Err error = rw is refl in absurd (let f : ⊥ = cc in f)
+
+fresh_error : (bytes : List ℕ) (error : ProblemError) → fresh_of bytes ≡ Err error → reading bytes ≡ Err error
+unfolding fresh_of
+fresh_error bytes error e = by_reading (reading bytes) refl e
+  where
+    by_reading : (r : Result ProblemView ProblemError) → reading bytes ≡ r → fresh_of bytes ≡ Err error → reading bytes ≡ Err error
+    by_reading (Ok p) is e = let whole : fresh_of bytes ≡ Ok (first_state bytes p) = rw is refl in absurd (let f : ⊥ = cc in f)
+    by_reading (Err other) is e = let whole : fresh_of bytes ≡ Err other = rw is refl in is ∙ sym whole ∙ e
+
+pub run_comes : (files : Change FilesState) (stopper : Change StopperState) (shares : List ℕ) (s : Sum) (got : List ℕ) (state : StateView) (status : ℕ) (text : List ℕ)
+    → Loads 1048576 files s.file got → fresh_of got ≡ Ok state → Continues (of_state state (plan_of s)) stopper shares status text
+    → Comes files stopper shares (run s) status text
+run_comes files stopper shares s got state status text loads fresh continues =
+    let (p, reads, same) = fresh_parts got state fresh in
+    let c : Continues (of_text got p (plan_of s)) stopper shares status text =
+    subst (λ x. Continues (of_state x (plan_of s)) stopper shares status text) (sym same) continues in
+    summed (run s) (of_text got p (plan_of s)) c.outcome status text (by_run s got p (problem_read files s.file got p loads reads) reads) c.sums c.answer
+
+pub run_refused : (files : Change FilesState) (stopper : Change StopperState) (s : Sum) (got : List ℕ) (error : ProblemError)
+    → Loads 1048576 files s.file got → fresh_of got ≡ Err error → Unchanged files → Unchanged stopper → WhyNot (run s) files stopper (refusal.Problem error)
+run_refused files stopper s got error loads fresh kept still =
+    let (bytes, file, refused) = problem_refused files s.file got error loads (fresh_error got error fresh) in
+    problem s bytes error refl file refused kept still
+
+pub resume_comes : (files : Change FilesState) (stopper : Change StopperState) (shares : List ℕ) (s : Sum) (got : List ℕ) (state : StateView) (status : ℕ) (text : List ℕ)
+    → Loads 1052672 files s.file got → IsState state → IsTextOf state got → Continues (of_state state (plan_of s)) stopper shares status text
+    → Comes files stopper shares (resume s) status text
+resume_comes files stopper shares s got state status text loads is of continues =
+    let (bytes, file, whole) = checkpoint_read files s.file got state loads is of in
+    summed (resume s) (of_state state (plan_of s)) continues.outcome status text (by_resume s bytes state file is whole) continues.sums continues.answer
+
+pub resume_refused : (files : Change FilesState) (stopper : Change StopperState) (s : Sum) (got : List ℕ) (error : CheckpointError)
+    → Loads 1052672 files s.file got → IsRefusal got error → Unchanged files → Unchanged stopper → WhyNot (resume s) files stopper (refusal.Checkpoint error)
+resume_refused files stopper s got error loads refused kept still =
+    let (bytes, file, why) = checkpoint_refused files s.file got error loads refused in
+    checkpoint s bytes error refl file why kept still
+
+pub soak_comes : (files : Change FilesState) (stopper : Change StopperState) (shares : List ℕ) (number workers status : ℕ) (text : List ℕ)
+    → Continues (of_number number workers) stopper shares status text → Comes files stopper shares (soak number workers) status text
+soak_comes files stopper shares number workers status text c =
+    summed (soak number workers) (of_number number workers) c.outcome status text (by_soak number workers) c.sums c.answer

@@ -1,0 +1,63 @@
+-- What is asked for comes to.
+use Rattle.std.specs.Prelude.{◌≡◌, ◌≢◌, ◌⊎◌, ℕ, List, [], ◌++◌, Option, Some, None, Ok, IsSome, IfSome}
+use Rattle.recover_fraction.specs.declared.recovery.Fraction.{Fraction}
+use Rattle.problem.specs.Rules.{KeepsRules}
+use Rattle.problem_toml.specs.Generator.{generated_problem}
+use Rattle.problem_toml.specs.Reading.{reading_of_any_length}
+use Rattle.checkpoint.specs.States.{StateView}
+use Rattle.checkpoint.specs.Texts.{text_in}
+use Rattle.report.specs.Fractions.{AreFractions}
+use Rattle.report.specs.Report.{done_status}
+use Rattle.report.specs.Texts.{done_text, no_inverse_text}
+use Rattle.rounds.specs.Outcomes.{IsProgress, IsEarly}
+use Rattle.rounds.specs.declared.progress.Outcome.{Outcome}
+use Rattle.rounds.specs.declared.progress.Outcome.TheVariants.{Done, Paused, NoInverse}
+use Rattle.command_line.specs.Requests.{Request, Sum, run, resume, make}
+use Rattle.locus_core.specs.Outside.{Change, Unchanged, FilesState, StopperState, HasStopped}
+use Rattle.locus_core.specs.Begins.{Beginning, Begins}
+
+-- Rounds were run from the beginning on, as many as the budget gives or up to the first that has a bad tree, and the
+-- workers share their blocks. They ended before the budget's end only if a stop was asked for under the plan's name.
+pub record Sums (b : Beginning) (stopper : Change StopperState) (shares : List ℕ) (outcome : Outcome) : Type 0 where
+  pub rules : KeepsRules b.sum.problem
+  pub progress : IsProgress b.sum b.plan.budget b.plan.workers (record { outcome = outcome; shares = shares })
+  pub stopped : IsEarly b.sum b.plan.budget outcome
+      → IsSome b.plan.stop_file × IfSome b.plan.stop_file (λ name. HasStopped stopper name)
+  pub kept : ¬ IsEarly b.sum b.plan.budget outcome → Unchanged stopper
+
+-- the state of a pause
+abbrev pub state_at : List ℕ → Beginning → ℕ → List ℕ → StateView
+state_at source b next residues = record { source = source; problem = b.sum.problem; next = next; residues = residues }
+
+-- The status and the text of an outcome: the sums with their fractions, the checkpoint of a pause, or the least bad tree.
+pub data IsAnswer (b : Beginning) : Outcome → ℕ → List ℕ → Type 0 where
+  done : (residues : List ℕ) (fractions : List (Option Fraction)) → AreFractions b.sum.problem residues fractions
+      → IsAnswer b (Done residues) (done_status fractions) (b.heading ++ done_text b.sum.problem residues fractions)
+  paused : (source : List ℕ) (next : ℕ) (residues : List ℕ) → b.source ≡ Some source
+      → IsAnswer b (Paused next residues) 5 (text_in 2 (state_at source b next residues))
+  no_inverse : (number modulus : ℕ)
+      → IsAnswer b (NoInverse number modulus) 4 (b.heading ++ no_inverse_text b.sum.problem number modulus)
+
+-- A sum was begun, and this is its answer; or a text was made that reads as the generated problem of a number.
+pub data Comes (files : Change FilesState) (stopper : Change StopperState) (shares : List ℕ) : Request → ℕ → List ℕ → Type 0 where
+  summed : (request : Request) (b : Beginning) (outcome : Outcome) (status : ℕ) (text : List ℕ) → Begins files request b
+      → Sums b stopper shares outcome → IsAnswer b outcome status text → Comes files stopper shares request status text
+  made : (number : ℕ) (text : List ℕ) → reading_of_any_length text ≡ Ok (generated_problem number) → shares ≡ []
+      → Unchanged stopper → Comes files stopper shares (make number) 0 text
+
+-- the file that is asked for
+abbrev pub file_of_request : Request → Option (List ℕ)
+file_of_request (run s) = Some s.file
+file_of_request (resume s) = Some s.file
+file_of_request _ = None
+
+-- the name of the file at whose presence the sum pauses
+abbrev pub stop_file_of : Request → Option (List ℕ)
+stop_file_of (run s) = s.stop_file
+stop_file_of (resume s) = s.stop_file
+stop_file_of _ = None
+
+-- no stop was counted, or one under the name that is asked for
+abbrev pub MayHaveStopped : Request → Change StopperState → Type 0
+MayHaveStopped request stopper = Unchanged stopper
+    ⊎ (IsSome (stop_file_of request) × IfSome (stop_file_of request) (λ name. HasStopped stopper name))

@@ -1,0 +1,99 @@
+//! Writing what a run comes to.
+
+ghost use Rattle.std.specs.Prelude.{◌≡◌, [], codes, IfOk, IsErr};
+ghost use Rattle.locus_core.specs.Texts.{refused_line, refused_checkpoint_line};
+ghost use Rattle.locus_core.specs.Outside.{sink_change, Tells};
+ghost use Rattle.locus_core.specs.Steps.{Prints, Refuses};
+
+use crate::top::Answer;
+use crate::work::{Printable, Refusal};
+use checkpoint::CheckpointError;
+use locus_io::{Failed, Sink, put_all};
+use problem_toml::ProblemError;
+use residue::NoMemory;
+use std::alloc::Global;
+use worker_pool::Shares;
+
+/// Writes a text whole and flushes it; if the output does not take it, the run ends with a write fault.
+pub(crate) fn print<O: Sink, E: Sink>(out: &mut O, err: &mut E, printable: Printable) -> Answer
+    ensures prints { Prints (sink_change O.written O.is_flushed O.faults out.old out.new)
+        (sink_change E.written E.is_flushed E.faults err.old err.new) printable.status printable.text.items result.status }
+    ensures shares { result.shares ≡ printable.shares }
+{
+    let status = match put_all(out, printable.text.as_slice()) {
+        Ok(()) => printable.status,
+        Err(Failed) => {
+            tell(err, b"write fault\n");
+            7
+        }
+    };
+    Answer {
+        status,
+        shares: printable.shares,
+    }
+}
+
+/// Ends a run of which nothing is printed.
+pub(crate) fn refuse<E: Sink>(alloc: Global, err: &mut E, refusal: Refusal) -> Answer
+    ensures refuses { Refuses (sink_change E.written E.is_flushed E.faults err.old err.new) result.status refusal }
+    ensures shares { result.shares ≡ [] }
+{
+    match refusal {
+        Refusal::ReadFault => end(err, 6, b"read fault\n"),
+        Refusal::NoMemory => end(err, 9, b"want of memory\n"),
+        Refusal::Problem(error) => end_with(err, 3, problem_line(alloc, &error)),
+        Refusal::Checkpoint(error) => end_with(err, 8, checkpoint_line(alloc, &error)),
+    }
+}
+
+/// Ends a run with a line on standard error, or with want of memory if there is no line.
+fn end_with<E: Sink>(err: &mut E, status: u8, line: Result<Vec<u8>, NoMemory>) -> Answer
+    ensures line { IfOk line (λ line. (result.status ≡ status)
+        × Tells (sink_change E.written E.is_flushed E.faults err.old err.new) line.items) }
+    ensures no_line { IsErr line → (result.status ≡ 9)
+        × Tells (sink_change E.written E.is_flushed E.faults err.old err.new) (codes "want of memory\n") }
+    ensures shares { result.shares ≡ [] }
+{
+    match line {
+        Ok(line) => end(err, status, line.as_slice()),
+        Err(NoMemory) => end(err, 9, b"want of memory\n"),
+    }
+}
+
+/// Ends a run with a line on standard error. A fault there changes nothing.
+pub(crate) fn end<E: Sink>(err: &mut E, status: u8, line: &[u8]) -> Answer
+    ensures status { result.status ≡ status }
+    ensures line { Tells (sink_change E.written E.is_flushed E.faults err.old err.new) line.now }
+    ensures shares { result.shares ≡ [] }
+{
+    tell(err, line);
+    Answer {
+        status,
+        shares: Shares::new(0),
+    }
+}
+
+/// Writes a line to standard error, as far as it takes it.
+fn tell<E: Sink>(err: &mut E, line: &[u8])
+    ensures { Tells (sink_change E.written E.is_flushed E.faults err.old err.new) line.now }
+{
+    let _ = put_all(err, line);
+}
+
+/// The line of a refused problem with its line feed.
+fn problem_line(alloc: Global, error: &ProblemError) -> Result<Vec<u8>, NoMemory>
+    ensures { IfOk result (λ line. line.items ≡ refused_line error.now) }
+{
+    let mut line = problem_toml::refusal_line(alloc, error)?;
+    line.push(b'\n')?;
+    Ok(line)
+}
+
+/// The line of a refused checkpoint with its line feed.
+fn checkpoint_line(alloc: Global, error: &CheckpointError) -> Result<Vec<u8>, NoMemory>
+    ensures { IfOk result (λ line. line.items ≡ refused_checkpoint_line error.now) }
+{
+    let mut line = checkpoint::refusal_line(alloc, error)?;
+    line.push(b'\n')?;
+    Ok(line)
+}
