@@ -1,4 +1,5 @@
 mod Answers
+pub mod BuiltToday
 pub mod Consequences
 mod Names
 mod Rules

@@ -19,9 +19,10 @@ pub and_both : (a b : Bool) → (a && b) ≡ true → (a ≡ true) × (b ≡ tru
 and_both true b e = (refl, e)
 and_both false b e = absurd (false≢true e)
 
--- ---- as many words as there are slots
+-- ---- as many positional arguments as there are slots
 
-pub one_word : (s : Slot) (ws : List Text) → (nat_le 1 (length ws) && plains_fit (s ∷ []) ws) ≡ true → (a : Text) × (ws ≡ a ∷ []) × (fits s.limit a ≡ true)
+pub one_word : (s : Slot) (ws : List Text) → (nat_le 1 (length ws) && plains_fit (s ∷ []) ws) ≡ true
+    → (a : Text) × (ws ≡ a ∷ []) × (fits s.limit a ≡ true)
 one_word s [] e = absurd (false≢true e)
 one_word s (a ∷ []) e = (a, refl, (and_both (fits s.limit a) _ e).0)
 one_word s (a ∷ b ∷ ws) e =
@@ -58,13 +59,16 @@ three_words s t u (a ∷ b ∷ c ∷ d ∷ ws) e =
 -- ---- each command asks for something
 
 abbrev pub AsksSome : CommandRule → Type 0
-AsksSome r = (ws : List Text) (os : Options) → are_plains r.usage ws ≡ true → (request : Request) × (r.asked ws os ≡ Some request)
+AsksSome r =
+    (ws : List Text) (os : Options) → are_plains r.usage ws ≡ true → (request : Request) ×
+    (r.asked ws os ≡ Some request)
 
 -- and is found by its name
 abbrev pub IsFound : CommandRule → Type 0
 IsFound r = (ws : List Text) (os : Options) → request_named r.usage.name ws os ≡ r.asked ws os
 
-run_some : (name : Text) (options : List Slot) → AsksSome (record { usage = table.usage name (table.file ∷ []) 1 options; asked = request.run_asked })
+run_some : (name : Text) (options : List Slot)
+    → AsksSome (record { usage = table.usage name (table.file ∷ []) 1 options; asked = request.run_asked })
 run_some name options ws os e = let (a, is, fit) = one_word table.file ws e in rw is (_, refl)
 
 resume_some : AsksSome table.resume
@@ -84,13 +88,16 @@ soak_some ws os e =
 
 trees_some : AsksSome table.trees
 trees_some ws os e =
-    let (a, b, c, is, named, low, high) = three_words table.file (table.number (codes "LO") 0 1099511627776) (table.number (codes "HI") 0 1099511627776) ws e in
+    let (a, b, c, is, named, low, high) =
+    three_words table.file (table.number (codes "LO") 0 1099511627776)
+    (table.number (codes "HI") 0 1099511627776) ws e in
     let (n, first, least, most) = number_within 0 1099511627776 b low in
     let (m, last, lower, upper) = number_within 0 1099511627776 c high in
     rw (is, first, last) (_, refl)
 
 rank_some : AsksSome table.rank
-rank_some ws os e = let (a, b, is, named, fit) = two_words table.file (table.text (codes "TEXT")) ws e in rw is (_, refl)
+rank_some ws os e =
+    let (a, b, is, named, fit) = two_words table.file (table.text (codes "TEXT")) ws e in rw is (_, refl)
 
 unrank_some : AsksSome table.unrank
 unrank_some ws os e =
@@ -100,7 +107,8 @@ unrank_some ws os e =
 
 split_some : AsksSome table.split
 split_some ws os e =
-    let (a, b, c, is, named, parts, part) = three_words table.file (table.number (codes "K") 1 64) (table.number (codes "I") 0 63) ws e in
+    let (a, b, c, is, named, parts, part) =
+    three_words table.file (table.number (codes "K") 1 64) (table.number (codes "I") 0 63) ws e in
     let (n, first, least, most) = number_within 1 64 b parts in
     let (m, last, lower, upper) = number_within 0 63 c part in
     rw (is, first, last) (_, refl)

@@ -1,5 +1,5 @@
 -- What words ask is within its limits: the plain words and the values of options are, one by one, and so each command is.
-use Rattle.std.proofs.Common.{◌≡◌, ◌≤◌, ◌<◌, ℕ, zero, suc, List, [], ◌∷◌, length, find, option_map, option_and_then, unwrap_or, Option, Some, None, Bool, true, false, ◌&&◌, refl, sym, ap, subst, ◌∙◌, arith, codes}
+use Rattle.std.proofs.Common.{◌≡◌, ◌≤◌, ℕ, zero, suc, List, [], ◌∷◌, length, find, option_map, option_and_then, unwrap_or, Option, Some, None, Bool, true, false, refl, sym, ap, subst, ◌∙◌, arith, codes}
 use Rattle.std.proofs.lemmas.Bool.{false≢true, leb-true}
 use Rattle.std.proofs.lemmas.Option.{same_Some}
 use Rattle.std.proofs.lemmas.Slice.Eq.{bytes_eq-Decides}
@@ -14,7 +14,7 @@ use Rattle.command_words.specs.Words.{are_options, are_plains, option_fits, opti
 use Rattle.command_words.proofs.Consequences.{number_within}
 use Rattle.command_line.specs.declared.table.Commands.{Commands}
 use Rattle.command_line.specs.declared.table.Commands.TheVariants as commands
-use Rattle.command_line.specs.Asked.{Asks, values_of}
+use Rattle.command_line.specs.Asked.{Asks}
 use Rattle.command_line.specs.Limits.{AreWorkers, IsSumWithin, IsWithin}
 use Rattle.command_line.specs.Requests.{Options, Request, number_or, workers_in, budget_in, run_asked, resume_asked, make_asked, soak_asked, trees_asked, rank_asked, unrank_asked, split_asked, batch_asked}
 use Rattle.command_line.specs.Requests as asks_for
@@ -214,8 +214,26 @@ pick (x ∷ rs) r each (suc k, lt, is) = pick rs r each.1 (k, omega arith, is)
 each : (c : Commands) → Each (rules_of c)
 each commands.Built = (run_within, (resume_within, (make_within, (soak_within, tt))))
 each commands.All = (
-  run_within, (resume_within, (make_within, (soak_within, (trees_within, (rank_within, (unrank_within,
-  (split_within, (merge_within, (batch_within, (cross_within, tt)))))))))),
+  run_within,
+  (
+    resume_within,
+    (
+      make_within,
+      (
+        soak_within,
+        (
+          trees_within,
+          (
+            rank_within,
+            (
+              unrank_within,
+              (split_within, (merge_within, (batch_within, (cross_within, tt)))),
+            ),
+          ),
+        ),
+      ),
+    ),
+  ),
 )
 
 pub asked_within : (c : Commands) (words : List Text) (request : Request) → Asks c words request → IsWithin request

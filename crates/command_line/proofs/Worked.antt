@@ -1,4 +1,4 @@
--- Worked lists of words, with what they ask.
+-- Worked lists of arguments, with what they ask.
 use Rattle.std.proofs.Common.{[], ◌∷◌, Some, None, codes, refl, arith}
 use Rattle.command_words.specs.Words.{plain, option, nothing, bare_word, apart, joined}
 use Rattle.command_line.specs.declared.table.Commands.TheVariants as commands

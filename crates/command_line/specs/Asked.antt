@@ -1,4 +1,4 @@
--- What words ask of the program.
+-- What the arguments ask of the program.
 use Rattle.std.specs.Prelude.{◌≡◌, List, Some, Result, Ok, Err}
 use Rattle.std.specs.List.{Contains}
 use Rattle.clap.specs.Walk.{Text}
@@ -14,7 +14,7 @@ use Rattle.command_words.specs.Taken.{IsRefusal, IsUse}
 abbrev pub values_of : List Item → Options
 values_of items name = value_named name (options_in items)
 
--- The words are a use of one of the commands, and by its plain words and options it asks for this.
+-- The arguments are a use of one of the commands, and by its positional arguments and options it asks for this.
 pub record Asks (commands : Commands) (words : List Text) (request : Request) : Type 0 where
   pub rule : CommandRule
   pub items : List Item
@@ -22,7 +22,7 @@ pub record Asks (commands : Commands) (words : List Text) (request : Request) : 
   pub is_use : IsUse (table_of_commands commands) words rule.usage items
   pub asked : rule.asked (plains_in items) (values_of items) ≡ Some request
 
--- the answer to the words: what they ask where they are taken, and otherwise why they are not
+-- the answer to the arguments: what they ask if they are accepted, and otherwise why they are not
 abbrev pub IsReading : Commands → List Text → Result Command WordsError → Type 0
 IsReading commands words (Ok command) = Asks commands words (request_of command)
 IsReading commands words (Err e) = IsRefusal (table_of_commands commands) words e

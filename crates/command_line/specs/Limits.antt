@@ -1,5 +1,5 @@
 -- The limits within which words ask.
-use Rattle.std.specs.Prelude.{ℕ, ◌<◌, ◌≤◌, ◌^◌, List, length}
+use Rattle.std.specs.Prelude.{ℕ, ◌<◌, ◌≤◌, ◌^◌, length}
 use Rattle.command_line.specs.Requests.{Request, Sum, run, resume, make, soak, trees, rank, unrank, split, merge, batch, cross}
 
 -- 1 to 64 workers
@@ -26,3 +26,17 @@ IsWithin (split file parts part workers) = (1 ≤ parts) × (parts ≤ 64) × (p
 IsWithin (merge files) = (1 ≤ length files) × (length files ≤ 64)
 IsWithin (batch list workers) = AreWorkers workers
 IsWithin (cross files workers) = (2 ≤ length files) × (length files ≤ 8) × AreWorkers workers
+
+-- it is one of the commands that are built today
+abbrev pub IsBuilt : Request → Type 0
+IsBuilt (run s) = Unit {0}
+IsBuilt (resume s) = Unit {0}
+IsBuilt (make number) = Unit {0}
+IsBuilt (soak number workers) = Unit {0}
+IsBuilt (trees file low high workers) = ⊥
+IsBuilt (rank file text) = ⊥
+IsBuilt (unrank file number) = ⊥
+IsBuilt (split file parts part workers) = ⊥
+IsBuilt (merge files) = ⊥
+IsBuilt (batch list workers) = ⊥
+IsBuilt (cross files workers) = ⊥

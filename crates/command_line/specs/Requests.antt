@@ -1,4 +1,4 @@
--- What a command asks for, by its plain words and its options.
+-- What a command asks for, by its positional arguments and its options.
 use Rattle.std.specs.Prelude.{ℕ, List, [], ◌∷◌, map, Option, Some, None, option_map, option_and_then, unwrap_or, codes}
 use Rattle.clap.specs.Walk.{Text}
 use Rattle.command_line.specs.declared.command.Command.{Command}
@@ -50,19 +50,19 @@ request_of (command.Cross files workers) = cross (map (λ name. name.now) files.
 
 -- ---- the values of options
 
--- the value of the option of each name, where it was given
+-- the value of the option of each name, if it was given
 abbrev pub Options : Type 0
 Options = Text → Option Text
 
--- the number of the option of this name, or another where it was not given
+-- the number of the option of this name, or another if it was not given
 abbrev pub number_or : ℕ → Text → Options → ℕ
 number_or other name options = unwrap_or (option_and_then number_in (options name)) other
 
--- one worker, where it is not said
+-- one worker, if it is not said
 abbrev pub workers_in : Options → ℕ
 workers_in = number_or 1 (codes "workers")
 
--- as many trees as a problem may have (2^40), where it is not said
+-- as many trees as a problem may have (2^40), if it is not said
 abbrev pub budget_in : Options → ℕ
 budget_in = number_or 1099511627776 (codes "budget")
 
@@ -106,7 +106,8 @@ unrank_asked _ options = None
 
 abbrev pub split_asked : List Text → Options → Option Request
 split_asked (file ∷ k ∷ i ∷ []) options =
-    option_and_then (λ parts. option_map (λ part. split file parts part (workers_in options)) (number_in i)) (number_in k)
+    option_and_then (λ parts. option_map (λ part. split file parts part (workers_in options)) (number_in i))
+    (number_in k)
 split_asked _ options = None
 
 abbrev pub merge_asked : List Text → Options → Option Request

@@ -11,12 +11,12 @@ use Rattle.command_words.specs.declared.table.Limit.{Limit}
 use Rattle.command_words.specs.declared.table.Limit.TheVariants as limit
 use Rattle.command_words.specs.Usages.{Slot, Usage}
 
--- a command: how it is used, and what it asks for by its plain words and its options
+-- a command: how it is used, and what it asks for by its positional arguments and its options
 pub record CommandRule : Type 0 where
   pub usage : Usage
   pub asked : List Text → Options → Option Request
 
--- ---- names of plain words and options
+-- ---- names of positional arguments and options
 
 abbrev pub slot : Text → Limit → Slot
 slot name l = record { name = name; limit = l }

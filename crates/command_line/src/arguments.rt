@@ -1,4 +1,4 @@
-//! The plain words and the options of the commands.
+//! The positional arguments and the options of the commands.
 use command_words::{Argument, Limit};
 
 /// The greatest number of trees of a problem.

@@ -1,4 +1,4 @@
-//! What words ask of the program.
+//! What the arguments ask of the program.
 
 /// The sum of a file.
 #[derive(Clone, Copy, Debug)]
@@ -13,7 +13,7 @@ pub struct RunRequest<'a> {
     pub stop_file: Option<&'a str>,
 }
 
-/// A command, with what its words give it.
+/// A command, with what its arguments give it.
 #[derive(Debug, Drop)]
 pub enum Command<'a> {
     /// Sum a problem, from its file.

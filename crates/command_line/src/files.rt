@@ -1,5 +1,5 @@
-//! The files of the commands that take several: an argument for each, since `clap` has no upper bound for the words of
-//! one argument that options may stand between.
+//! The files of the commands that take several: an argument for each, since `clap` has no upper bound for the number
+//! of values of one argument if options may stand between them.
 use command_words::{Argument, Limit};
 
 macro_rules! file {

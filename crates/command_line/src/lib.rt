@@ -1,4 +1,4 @@
-//! The command line of the program: its commands, and what words ask of it.
+//! The command line of the program: its commands, and what its arguments ask of it.
 #![tactic(auto)]
 
 mod arguments;
@@ -11,7 +11,7 @@ mod table;
 
 pub use command::{Command, RunRequest};
 pub use command_words::WordsError;
-pub use reading::read;
+pub use reading::{are_taken, read};
 pub use table::Commands;
 
 #[cfg(test)]

@@ -1,4 +1,4 @@
-//! From what words give a command to what they ask.
+//! From what is given to a command to what is asked.
 ghost use Rattle.std.specs.Prelude.{◌≡◌, map, option_map};
 ghost use Rattle.command_words.specs.Taken.{pair_of};
 ghost use Rattle.command_line.specs.Given.{options_of, plains_of, request_named};

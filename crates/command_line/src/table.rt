@@ -6,7 +6,7 @@ ghost use Rattle.command_words.specs.Usages.{table_of, usage_of};
 use crate::rows::{BATCH, CROSS, MAKE, MERGE, RANK, RESUME, RUN, SOAK, SPLIT, TREES, UNRANK};
 use command_words::{CommandRow, Program};
 
-/// Which commands are taken.
+/// Which commands are accepted.
 #[derive(Clone, Copy, Debug, PartialEq, Eq)]
 pub enum Commands {
     /// Those that the program has today: `run`, `resume`, `make` and `soak`.
@@ -21,7 +21,7 @@ const ALL_ROWS: [CommandRow<'static>; 11] = [
     RUN, RESUME, MAKE, SOAK, TREES, RANK, UNRANK, SPLIT, MERGE, BATCH, CROSS,
 ];
 
-/// What is printed of words that name no command.
+/// What is printed if the arguments name no command.
 const BUILT_USAGE: &str = concat!(
     "locus COMMAND ..\n\n",
     "  run FILE [--workers N] [--budget N] [--stop-file NAME]     sum a problem and print its residues and fractions\n",
@@ -30,7 +30,7 @@ const BUILT_USAGE: &str = concat!(
     "  soak N [--workers N]                                       sum the generated problem of a number",
 );
 
-/// What is printed of words that name no command.
+/// What is printed if the arguments name no command.
 const ALL_USAGE: &str = concat!(
     "locus COMMAND ..\n\n",
     "  run FILE [--workers N] [--budget N] [--stop-file NAME]     sum a problem and print its residues and fractions\n",

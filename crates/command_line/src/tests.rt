@@ -1,13 +1,13 @@
-//! Lists of words with what they ask, and the text of messages.
+//! Lists of arguments with what they ask, and the text of messages.
 mod lists;
 mod messages;
 mod random;
 
-use crate::{Commands, WordsError, read};
+use crate::{Commands, WordsError, are_taken, read};
 use std::alloc::{AllocError, Global};
 use std::test::Fail;
 
-/// The words of a line, which `|` stands between.
+/// The arguments of a line, with `|` between them.
 fn words_of(alloc: Global, line: &str) -> Result<Vec<String>, AllocError> {
     let mut words = Vec::new(alloc);
     for word in line.split('|') {
@@ -16,10 +16,14 @@ fn words_of(alloc: Global, line: &str) -> Result<Vec<String>, AllocError> {
     Ok(words)
 }
 
-/// What the words of a line ask, or why they are refused.
+/// What the arguments of a line ask, or why they are refused; if `are_taken` says otherwise than `read`, this.
 fn told(alloc: Global, commands: Commands, line: &str) -> Result<String, AllocError> {
     let words = words_of(alloc, line)?;
-    match read(alloc, commands, words.as_slice()) {
+    let found = read(alloc, commands, words.as_slice());
+    if are_taken(commands, words.as_slice()) != found.is_ok() {
+        return String::from_str(alloc, "are_taken and read differ");
+    }
+    match found {
         Ok(command) => format!(in alloc; "{command:?}"),
         Err(WordsError::Refused) => String::from_str(alloc, "refused"),
         Err(WordsError::ByCommand(_)) => String::from_str(alloc, "command"),
@@ -29,7 +33,10 @@ fn told(alloc: Global, commands: Commands, line: &str) -> Result<String, AllocEr
 
 /// Whether this is what a case wants, which may leave open what is asked.
 fn is_wanted(found: &str, wanted: &str) -> bool {
-    let is_refusal = found == "refused" || found == "command" || found == "no memory";
+    let is_refusal = found == "refused"
+        || found == "command"
+        || found == "no memory"
+        || found == "are_taken and read differ";
     found == wanted || (wanted == "taken" && !is_refusal)
 }
 
@@ -121,5 +128,6 @@ fn no_words_are_refused_by_the_command(rt: HostRuntime) -> Result<(), Fail> {
     let none: Vec<String> = Vec::new(rt.alloc());
     let found = read(rt.alloc(), Commands::All, none.as_slice());
     assert!(rt; matches!(&found, Err(WordsError::ByCommand(_))));
+    assert!(rt; !are_taken(Commands::All, none.as_slice()));
     Ok(())
 }

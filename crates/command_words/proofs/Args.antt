@@ -15,7 +15,7 @@ use Rattle.command_words.specs.declared.table.Limit.{Limit}
 use Rattle.command_words.specs.Usages.{Slot, Usage, different, is_among}
 use Rattle.command_words.specs.Clap.{option_rule, parser_for, plain_rules, rules_for}
 
--- an argument: a slot, with its place where it is a plain word
+-- an argument of clap: a slot, with its position if it is a positional argument
 pub record Arg : Type 0 where
   pub id : Text
   pub limit : Limit
@@ -44,25 +44,30 @@ option_arg s = record { id = s.name; limit = s.limit; required = false; place = 
 abbrev pub plain_arg : Bool → ℕ → Slot → Arg
 plain_arg required place s = record { id = s.name; limit = s.limit; required = required; place = Some place }
 
--- the place behind this one
+-- the position after this one
 abbrev pub place_after : ℕ → ℕ
 place_after i = min (i + 1) usize_max
 
 abbrev pub plain_args : ℕ → ℕ → ℕ → List Slot → List Arg
 plain_args least i place [] = []
-plain_args least i place (s ∷ slots) = plain_arg (nat_lt i least) place s ∷ plain_args least (i + 1) (place_after place) slots
+plain_args least i place (s ∷ slots) =
+    plain_arg (nat_lt i least) place s ∷ plain_args least (i + 1) (place_after place) slots
 
 abbrev pub args_for : Usage → List Arg
 args_for u = plain_args u.least 0 1 u.plains ++ map option_arg u.options
 
-options_built : (place : ℕ) (slots : List Slot) → filled_from place (map option_rule slots) ≡ map rule_at (map option_arg slots)
+options_built : (place : ℕ) (slots : List Slot)
+    → filled_from place (map option_rule slots) ≡ map rule_at (map option_arg slots)
 options_built place [] = refl
 options_built place (s ∷ slots) = ap (λ rs. rule_at (option_arg s) ∷ rs) (options_built place slots)
 
 plains_built : (least i place : ℕ) (slots options : List Slot)
-    → filled_from place (plain_rules least i slots ++ map option_rule options) ≡ map rule_at (plain_args least i place slots ++ map option_arg options)
+    → filled_from place (plain_rules least i slots ++ map option_rule options)
+    ≡ map rule_at (plain_args least i place slots ++ map option_arg options)
 plains_built least i place [] options = options_built place options
-plains_built least i place (s ∷ slots) options = ap (λ rs. rule_at (plain_arg (nat_lt i least) place s) ∷ rs) (plains_built least (i + 1) (place_after place) slots options)
+plains_built least i place (s ∷ slots) options =
+    ap (λ rs. rule_at (plain_arg (nat_lt i least) place s) ∷ rs)
+    (plains_built least (i + 1) (place_after place) slots options)
 
 -- the rules of a command of the table, below the one that has the table
 pub rules_built : (u : Usage) → filled_from 1 (rules_for u) ≡ map rule_at (args_for u)
@@ -70,20 +75,24 @@ rules_built u = plains_built u.least 0 1 u.plains u.options
 
 -- ---- the arguments by their names and places
 
-found_step : {A B : Type 0} (f : A → B) (b : Bool) (x : A) (l : Option B) (r : Option A) → l ≡ option_map f r → cond b (Some (f x)) l ≡ option_map f (cond b (Some x) r)
+found_step : {A B : Type 0} (f : A → B) (b : Bool) (x : A) (l : Option B) (r : Option A) → l ≡ option_map f r
+    → cond b (Some (f x)) l ≡ option_map f (cond b (Some x) r)
 found_step f true x l r e = refl
 found_step f false x l r e = e
 
-pub find_map : {A B : Type 0} (f : A → B) (p : B → Bool) (xs : List A) → find p (map f xs) ≡ option_map f (find (λ x. p (f x)) xs)
+pub find_map : {A B : Type 0} (f : A → B) (p : B → Bool) (xs : List A)
+    → find p (map f xs) ≡ option_map f (find (λ x. p (f x)) xs)
 find_map f p [] = refl
 find_map f p (x ∷ xs) = found_step f (p (f x)) x _ _ (find_map f p xs)
 
--- what is found passes where all pass
-found_fails : {A : Type 0} (q r : A → Bool) (xs : List A) (a : A) → list_any r xs ≡ false → find q xs ≡ Some a → r a ≡ false
+-- what is found passes if all pass
+found_fails : {A : Type 0} (q r : A → Bool) (xs : List A) (a : A) → list_any r xs ≡ false → find q xs ≡ Some a
+    → r a ≡ false
 found_fails q r [] a none e = cc
 found_fails q r (x ∷ xs) a none e = step (q x) (r x) (list_any r xs) (find q xs) refl none e (found_fails q r xs a)
   where
-    step : (b c d : Bool) (o : Option _) → r x ≡ c → (c || d) ≡ false → cond b (Some x) o ≡ Some a → (d ≡ false → o ≡ Some a → r a ≡ false) → r a ≡ false
+    step : (b c d : Bool) (o : Option _) → r x ≡ c → (c || d) ≡ false → cond b (Some x) o ≡ Some a
+        → (d ≡ false → o ≡ Some a → r a ≡ false) → r a ≡ false
     step true false d o here none e rest = subst (λ y. r y ≡ false) (same_Some x a e) here
     step false false d o here none e rest = rest none e
     step b true d o here none e rest = absurd (false≢true (sym none))
@@ -115,14 +124,18 @@ among_ids t [] = refl
 among_ids t (a ∷ args) = ap (λ b. bytes_eq a.id t || b) (among_ids t args)
 
 -- what is found in any way is found by its name
-pub found_named : (q : Arg → Bool) (args : List Arg) (a : Arg) → are_different args ≡ true → find q args ≡ Some a → named args a.id ≡ Some a
+pub found_named : (q : Arg → Bool) (args : List Arg) (a : Arg) → are_different args ≡ true → find q args ≡ Some a
+    → named args a.id ≡ Some a
 found_named q [] a different e = cc
-found_named q (x ∷ xs) a different e = step (q x) (is_among x.id (ids_of xs)) (are_different xs) (find q xs) refl refl different e (found_named q xs a)
+found_named q (x ∷ xs) a different e =
+    step (q x) (is_among x.id (ids_of xs)) (are_different xs) (find q xs) refl refl different e (found_named q xs a)
   where
-    step : (b c d : Bool) (o : Option Arg) → is_among x.id (ids_of xs) ≡ c → find q xs ≡ o → (not c && d) ≡ true → cond b (Some x) o ≡ Some a → (d ≡ true → o ≡ Some a → named xs a.id ≡ Some a)
+    step : (b c d : Bool) (o : Option Arg) → is_among x.id (ids_of xs) ≡ c → find q xs ≡ o → (not c && d) ≡ true
+        → cond b (Some x) o ≡ Some a → (d ≡ true → o ≡ Some a → named xs a.id ≡ Some a)
         → cond (bytes_eq x.id a.id) (Some x) (named xs a.id) ≡ Some a
     step b true d o none is different e rest = absurd (false≢true different)
     step true false d o none is different e rest = let same = same_Some x a e in rw (← same, same_text x.id) refl
     step false false d o none is different e rest =
-        let other : bytes_eq x.id a.id ≡ false = flipped x.id a.id ∙ found_fails q (λ b. bytes_eq b.id x.id) xs a (sym (among_ids x.id xs) ∙ none) (is ∙ e) in
+        let other : bytes_eq x.id a.id ≡ false =
+        flipped x.id a.id ∙ found_fails q (λ b. bytes_eq b.id x.id) xs a (sym (among_ids x.id xs) ∙ none) (is ∙ e) in
         rw other (rest different e)

@@ -1,4 +1,4 @@
--- What follows of the words that are taken.
+-- What follows from the definition of the arguments that are accepted.
 use Rattle.std.proofs.Common.{◌≡◌, ◌≤◌, ◌<◌, ◌^◌, ℕ, List, ◌∷◌, drop, Some, true, slice_get, sym, ap, ◌∙◌, refl, arith}
 use Rattle.std.proofs.lemmas.Option.{same_Some}
 use Rattle.std.proofs.lemmas.Bool.{leb-true, ltb-true, le-leb}
@@ -15,8 +15,9 @@ use Rattle.command_words.proofs.Law.{row_named, sound_names, taken_passes}
 use Rattle.command_words.proofs.Said.{said}
 use Rattle.command_words.proofs.Bools.{and_both}
 
--- no list of words is a use of two commands, or in two ways
-pub one_use : (table : List Usage) (words : List Text) (u v : Usage) (items others : List Item) → is_sound_table table ≡ true → IsUse table words u items → IsUse table words v others → (u ≡ v) × (items ≡ others)
+-- no list of arguments is a use of two commands, or in two ways
+pub one_use : (table : List Usage) (words : List Text) (u v : Usage) (items others : List Item)
+    → is_sound_table table ≡ true → IsUse table words u items → IsUse table words v others → (u ≡ v) × (items ≡ others)
 one_use table words u v items others sound h k =
     let both : (h.first ∷ u.name ∷ h.rest) ≡ (k.first ∷ v.name ∷ k.rest) = sym h.split ∙ k.split in
     let same : u.name ≡ v.name = same_Some u.name v.name (ap (λ ws. slice_get ws 1) both) in
@@ -26,12 +27,15 @@ one_use table words u v items others sound h k =
       same_Some items others (sym (said h.rest items h.says) ∙ ap items_of rest ∙ said k.rest others k.says),
     )
 
--- words that are taken are not refused at the first look
-pub taken_not_refused : (table : List Usage) (words : List Text) → is_sound_table table ≡ true → AreTaken table words → ¬ AreRefusedFirst words
-taken_not_refused table words sound taken refused = let both = sym (taken_passes table words sound taken) ∙ refused in cc
+-- arguments that are accepted are not refused at the first look
+pub taken_not_refused : (table : List Usage) (words : List Text) → is_sound_table table ≡ true → AreTaken table words
+    → ¬ AreRefusedFirst words
+taken_not_refused table words sound taken refused =
+    let both = sym (taken_passes table words sound taken) ∙ refused in cc
 
 -- a value within a limit for numbers is a number within it
-pub number_within : (low high : ℕ) (value : Text) → is_unsigned_in low high value ≡ true → (n : ℕ) × (number_in value ≡ Some n) × (low ≤ n) × (n ≤ high)
+pub number_within : (low high : ℕ) (value : Text) → is_unsigned_in low high value ≡ true
+    → (n : ℕ) × (number_in value ≡ Some n) × (low ≤ n) × (n ≤ high)
 number_within low high value e =
     let n = digits_value 10 (without_leading_plus value) in
     let (numeral, rest) = and_both (is_numeral (without_leading_plus value)) _ e in

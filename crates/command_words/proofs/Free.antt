@@ -15,7 +15,8 @@ options_simple : (options : List Slot) → list_all (λ (a : Rule). a.is_simple)
 options_simple [] = refl
 options_simple (s ∷ options) = options_simple options
 
-rules_simple : (least i : ℕ) (slots options : List Slot) → list_all (λ (a : Rule). a.is_simple) (plain_rules least i slots ++ map option_rule options) ≡ true
+rules_simple : (least i : ℕ) (slots options : List Slot)
+    → list_all (λ (a : Rule). a.is_simple) (plain_rules least i slots ++ map option_rule options) ≡ true
 rules_simple least i [] options = options_simple options
 rules_simple least i (s ∷ slots) options = rules_simple least (i + 1) slots options
 
@@ -38,14 +39,16 @@ never_early n (a ∷ args) = rw (and_false (is_some a.place), never_early n args
 
 leaves_ready : (table : List Usage) → list_all is_ready_leaf (map leaf_for table) ≡ true
 leaves_ready [] = refl
-leaves_ready (u ∷ table) = rw (args_simple (args_for u), never_early (count_by (λ (a : Rule). is_some a.index) (map rule_at (args_for u))) (args_for u)) (leaves_ready table)
+leaves_ready (u ∷ table) =
+    rw (args_simple (args_for u), never_early (count_by (λ (a : Rule). is_some a.index) (map rule_at (args_for u))) (args_for u)) (leaves_ready table)
 
 leaves_free : (table : List Usage) → list_all has_free_rules (map leaf_for table) ≡ true
 leaves_free [] = refl
 leaves_free (u ∷ table) = rw (args_free (args_for u)) (leaves_free table)
 
 -- the test, of what is built
-built_free : (program : Text) (table : List Usage) (a : App) → a ≡ whole program table → ((is_buildable (app_for program table) && (is_ready a.top && list_all is_ready_leaf a.subs)) && is_free_app a) ≡ true
+built_free : (program : Text) (table : List Usage) (a : App) → a ≡ whole program table
+    → ((is_buildable (app_for program table) && (is_ready a.top && list_all is_ready_leaf a.subs)) && is_free_app a) ≡ true
 built_free program table a e = rw (e, subs_simple table, leaves_ready table, leaves_free table) refl
 
 pub is_free : (program : Text) (table : List Usage) → is_simple_and_free (app_for program table) ≡ true

@@ -1,4 +1,4 @@
--- What words say, as a function of them.
+-- What the words after a command (its arguments) say, as a function of them.
 use Rattle.std.specs.Prelude.{Bool, false, List, [], ◌∷◌, Option, Some, None, option_map}
 use Rattle.std.specs.Option.{option_map_or}
 use Rattle.clap.specs.Lexer.{long_of, short_of}
@@ -47,7 +47,7 @@ abbrev pub rest_by : Form → Text → Items → Rest
 rest_by bare word items = option_map (λ is. (word, is)) items
 rest_by _ word items = None
 
--- what the words say, where they say something
+-- what the words say, if they say something
 abbrev mutual
   pub items_of : List Text → Items
   items_of [] = Some []

@@ -11,6 +11,9 @@ mod Rows
 mod Said
 mod Texts
 mod Top
+mod Lookups
 mod Uses
 pub mod Values
+mod Passing
+mod Told
 mod Walks

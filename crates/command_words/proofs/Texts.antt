@@ -10,7 +10,7 @@ use Rattle.std.specs.Str.{IsUtf8, chars}
 use Rattle.clap.specs.Lexer.{short_of, short_of_rest}
 use Rattle.clap.specs.Walk.{Text}
 use Rattle.command_words.specs.Words.{is_refused_first}
-use Rattle.command_words.proofs.Walks.{AreWords, IsWord}
+use Rattle.command_words.proofs.Passing.{AreWords, IsWord}
 use Rattle.command_words.proofs.Bools.{or_false}
 
 first_of : (cs bs : List ℕ) → encode_utf8_all cs ≡ bs → 0 < length bs → (c : ℕ) × (slice_get cs 0 ≡ Some c)
@@ -32,7 +32,8 @@ flag_text : (w flags : Text) → short_of w ≡ Some flags → (w ≡ 45 ∷ fla
 flag_text [] flags e = cc
 flag_text (x ∷ xs) flags e = by_test (x == 45) refl e
   where
-    by_test : (b : Bool) → (x == 45) ≡ b → option_and_then short_of_rest (if b then Some xs else None) ≡ Some flags → (x ∷ xs ≡ 45 ∷ flags) × (0 < length flags)
+    by_test : (b : Bool) → (x == 45) ≡ b → option_and_then short_of_rest (if b then Some xs else None) ≡ Some flags
+        → (x ∷ xs ≡ 45 ∷ flags) × (0 < length flags)
     by_test true t e =
         let rest = rest_flags xs flags e in
         let here : x ≡ 45 = (unsigned_Decides x 45).0 t in
@@ -40,7 +41,8 @@ flag_text (x ∷ xs) flags e = by_test (x == 45) refl e
     by_test false t e = cc
 
 flags_utf8 : (flags : Text) → IsUtf8 (45 ∷ flags) → IsUtf8 flags
-flags_utf8 flags utf8 = IsUtf8-drop (45 ∷ flags) 1 utf8 (IsCharBoundary-after_ascii (45 ∷ flags) 0 utf8 (omega arith) (lit< tt))
+flags_utf8 flags utf8 =
+    IsUtf8-drop (45 ∷ flags) 1 utf8 (IsCharBoundary-after_ascii (45 ∷ flags) 0 utf8 (omega arith) (lit< tt))
 
 is_word : (w : Text) → IsUtf8 w → is_refused_first w ≡ false → IsWord w
 is_word w utf8 passes = record {
@@ -48,7 +50,8 @@ is_word w utf8 passes = record {
   flagged = λ flags e. let (same, some) = flag_text w flags e in first_char flags (flags_utf8 flags (rw same at utf8)) some;
 }
 
-pub are_words : (words : List (String Global)) → list_any (λ w. is_refused_first (string_bytes w)) words ≡ false → AreWords (map string_bytes words)
+pub are_words : (words : List (String Global)) → list_any (λ w. is_refused_first (string_bytes w)) words ≡ false
+    → AreWords (map string_bytes words)
 are_words [] passes = tt
 are_words (w ∷ ws) passes =
     let (here, more) = or_false _ _ passes in

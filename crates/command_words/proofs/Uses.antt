@@ -1,12 +1,11 @@
--- The items that pass one by one are those of a use.
-use Rattle.std.proofs.Common.{◌≡◌, cond, ℕ, ◌+◌, ◌<◌, ◌≤◌, ◌==◌, List, [], ◌∷◌, ◌++◌, map, length, Option, Some, None, option_map, Bool, true, false, not, ◌&&◌, ◌||◌, refl, ap, ap₂, sym, subst, ◌∙◌, arith}
-use Rattle.std.proofs.lemmas.Bool.{false≢true, leb-true, leb-false, le-leb, ltb-true, ltb-false}
-use Rattle.std.proofs.lemmas.Bool.Decides.{Decides-eqb}
-use Rattle.std.proofs.lemmas.Option.{same_Some}
+-- The items that pass one by one are those of a use, and what they give are the values of the use. Both follow by induction
+-- on the items, with the slots before the next plain word and the options that were read so far.
+use Rattle.std.proofs.Common.{◌≡◌, ℕ, ◌+◌, ◌≤◌, List, [], ◌∷◌, ◌++◌, map, length, Option, Some, None, option_map, Bool, true, false, not, ◌&&◌, ◌||◌, refl, ap, ap₂, sym, subst, ◌∙◌, arith}
+use Rattle.std.proofs.lemmas.Bool.{false≢true, leb-true}
 use Rattle.std.proofs.lemmas.List.{append-nil, append_assoc, length-append, map-append}
 use Rattle.std.proofs.lemmas.List.Folds.{list_any-append}
 use Rattle.std.proofs.lemmas.Slice.Eq.{bytes_eq-Decides}
-use Rattle.std.specs.Prelude.{nat_lt, nat_le}
+use Rattle.std.specs.Prelude.{nat_le}
 use Rattle.std.specs.List.{list_all}
 use Rattle.std.specs.Option.{option_map_or}
 use Rattle.std.specs.Str.{bytes_eq}
@@ -14,134 +13,11 @@ use Rattle.clap.specs.Walk.{Text}
 use Rattle.command_words.specs.Usages.{Slot, Usage, different, fits, is_among, is_sound, names_of}
 use Rattle.command_words.specs.Words.{Item, plain, option, is_use, names_in, option_fits, options_in, plains_fit, plains_in, slot_named}
 use Rattle.command_words.specs.Rows.{has_name, values_in}
-use Rattle.command_words.proofs.Args.{Arg, are_different, ids_of, args_for, option_arg, flipped, place_after, plain_arg, plain_args, same_text}
+use Rattle.command_words.proofs.Args.{are_different, ids_of, args_for, option_arg, flipped, place_after, plain_args, same_text}
 use Rattle.command_words.proofs.Rows.{Given}
-use Rattle.command_words.proofs.Walks.{by_long, by_place, given_after, lacks, put, take_items, then_use}
+use Rattle.command_words.proofs.Passing.{by_place, given_after, lacks, put, take_items, then_use}
 use Rattle.command_words.proofs.Bools.{and_false, or_true, or_end, or_false, or_assoc, and_both, not_true}
-
--- ---- names that differ
-
--- a name of the first list is none of the second
-pub apart : (xs ys : List Text) (t : Text) → different (xs ++ ys) ≡ true → is_among t xs ≡ true → is_among t ys ≡ false
-apart [] ys t d e = absurd (false≢true e)
-apart (x ∷ xs) ys t d e =
-    let (head, tail) = and_both (not (is_among x (xs ++ ys))) _ d in
-    step (bytes_eq x t) refl e (or_false _ _ (sym (list_any-append _ xs ys) ∙ not_true _ head)).1 (apart xs ys t tail)
-  where
-    step : (b : Bool) → bytes_eq x t ≡ b → (b || is_among t xs) ≡ true → is_among x ys ≡ false → (is_among t xs ≡ true → is_among t ys ≡ false) → is_among t ys ≡ false
-    step true here e none rest = subst (λ s. is_among s ys ≡ false) ((bytes_eq-Decides x t).0 here) none
-    step false here e none rest = rest e
-
--- ---- the argument of the next plain word
-
-eq_false : (a b : ℕ) → a < b → (a == b) ≡ false
-eq_false a b lt = step (a == b) refl
-  where
-    step : (c : Bool) → (a == b) ≡ c → c ≡ false
-    step true e = let same : a ≡ b = (Decides-eqb a b).0 e in absurd (omega arith)
-    step false e = refl
-
-eq_true : (a b : ℕ) → a ≡ b → (a == b) ≡ true
-eq_true a b e = (Decides-eqb a b).1 e
-
-pub next_place : (i : ℕ) → i ≤ 2000 → place_after i ≡ i + 1
-next_place i le = omega arith
-
-abbrev pub first_arg : ℕ → ℕ → ℕ → List Slot → Option Arg
-first_arg least i place [] = None
-first_arg least i place (s ∷ slots) = Some (plain_arg (nat_lt i least) place s)
-
-no_place : (options : List Slot) (q : ℕ) → by_place (map option_arg options) q ≡ None
-no_place [] q = refl
-no_place (s ∷ options) q = no_place options q
-
-pub place_found : (least i place : ℕ) (before slots options : List Slot) (j q : ℕ) → j ≡ i + length before → q ≡ place + length before → q ≤ 2000
-    → by_place (plain_args least i place (before ++ slots) ++ map option_arg options) q ≡ first_arg least j q slots
-place_found least i place [] [] options j q e f le = no_place options q
-place_found least i place [] (s ∷ slots) options j q e f le =
-    let here : place ≡ q = omega arith in
-    let same : i ≡ j = omega arith in
-    rw (eq_true place q here, here, same) refl
-place_found least i place (b ∷ before) slots options j q e f le =
-    let later : place < q = omega arith in
-    let small : place ≤ 2000 = omega arith in
-    rw (eq_false place q later, next_place place small) (place_found least (i + 1) (place + 1) before slots options j q (omega arith) (omega arith) le)
-
--- ---- the argument of an option
-
-found_step : (b c : Bool) (s : Slot) (l : Option Arg) (r : Option Slot) → c ≡ b → l ≡ option_map option_arg r → cond c (Some (option_arg s)) l ≡ option_map option_arg (cond b (Some s) r)
-found_step true true s l r e f = refl
-found_step false false s l r e f = f
-found_step true false s l r e f = absurd (false≢true e)
-found_step false true s l r e f = absurd (false≢true (sym e))
-
-long_slots : (options : List Slot) (name : Text) → by_long (map option_arg options) name ≡ option_map option_arg (slot_named options name)
-long_slots [] name = refl
-long_slots (s ∷ options) name = found_step (bytes_eq s.name name) _ s _ _ (or_end (bytes_eq s.name name)) (long_slots options name)
-
-pub long_found : (least i place : ℕ) (slots options : List Slot) (name : Text) → by_long (plain_args least i place slots ++ map option_arg options) name ≡ option_map option_arg (slot_named options name)
-long_found least i place [] options name = long_slots options name
-long_found least i place (s ∷ slots) options name = long_found least (i + 1) (place_after place) slots options name
-
-pub slot_found : (options : List Slot) (name : Text) (s : Slot) → slot_named options name ≡ Some s → (s.name ≡ name) × (is_among name (names_of options) ≡ true)
-slot_found [] name s e = cc
-slot_found (o ∷ options) name s e = step (bytes_eq o.name name) refl e (slot_found options name s)
-  where
-    step : (b : Bool) → bytes_eq o.name name ≡ b → cond b (Some o) (slot_named options name) ≡ Some s → (slot_named options name ≡ Some s → (s.name ≡ name) × (is_among name (names_of options) ≡ true))
-        → (s.name ≡ name) × ((b || is_among name (names_of options)) ≡ true)
-    step true here e rest = let same = same_Some o s e in (ap (λ x. x.name) (sym same) ∙ (bytes_eq-Decides o.name name).0 here, refl)
-    step false here e rest = rest e
-
--- ---- what is lacking
-
-abbrev AreGiven : List Slot → Given → Type 0
-AreGiven slots given = (t : Text) → is_among t (names_of slots) ≡ true → has_name t given ≡ true
-
-abbrev AreNew : List Slot → Given → Type 0
-AreNew slots given = (t : Text) → is_among t (names_of slots) ≡ true → has_name t given ≡ false
-
-first_among : (s : Slot) (slots : List Slot) → is_among s.name (names_of (s ∷ slots)) ≡ true
-first_among s slots = rw (same_text s.name) refl
-
-more_among : (s : Slot) (slots : List Slot) (t : Text) → is_among t (names_of slots) ≡ true → is_among t (names_of (s ∷ slots)) ≡ true
-more_among s slots t e = rw e (or_true (bytes_eq s.name t))
-
-lacks_options : (options : List Slot) (given : Given) → lacks (map option_arg options) given ≡ false
-lacks_options [] given = refl
-lacks_options (s ∷ options) given = lacks_options options given
-
-lacks_test : (least i : ℕ) (d : Bool) → not d ≡ nat_le least (i + 1) → not ((nat_lt i least && true) || d) ≡ nat_le least i
-lacks_test least i d h = step (nat_lt i least) (nat_le least i) (nat_le least (i + 1)) d refl refl refl h
-  where
-    step : (b c m d : Bool) → nat_lt i least ≡ b → nat_le least i ≡ c → nat_le least (i + 1) ≡ m → not d ≡ m → not ((b && true) || d) ≡ c
-    step true true m d e f g h = let up : i < least = ltb-true i least e in let down : least ≤ i = leb-true least i f in absurd (omega arith)
-    step true false m d e f g h = refl
-    step false true true d e f g h = h
-    step false true false d e f g h = let down : least ≤ i = leb-true least i f in let up : i + 1 < least = leb-false least (i + 1) g in absurd (omega arith)
-    step false false m d e f g h = let down : least ≤ i = ltb-false i least e in let up : i < least = leb-false least i f in absurd (omega arith)
-
--- the first is new, so it lacks where it is required
-lacks_slots : (least i place : ℕ) (slots options : List Slot) (given : Given) → AreNew slots given → least ≤ i + length slots
-    → not (lacks (plain_args least i place slots ++ map option_arg options) given) ≡ nat_le least i
-lacks_slots least i place [] options given new le = rw (lacks_options options given) (sym (le-leb least i (omega arith)))
-lacks_slots least i place (s ∷ slots) options given new le =
-    let tail = lacks_slots least (i + 1) (place_after place) slots options given (λ t e. new t (more_among s slots t e)) (omega arith) in
-    rw (new s.name (first_among s slots)) (lacks_test least i _ tail)
-
-lacks_more : (b d : Bool) → ((b && false) || d) ≡ d
-lacks_more true d = refl
-lacks_more false d = refl
-
--- what was given is not lacking
-pub lacks_after : (least i place : ℕ) (before slots options : List Slot) (given : Given) (j : ℕ) → j ≡ i + length before → AreGiven before given → AreNew slots given → least ≤ j + length slots
-    → not (lacks (plain_args least i place (before ++ slots) ++ map option_arg options) given) ≡ nat_le least j
-lacks_after least i place [] slots options given j e old new le =
-    let same : i ≡ j = omega arith in
-    let fits : least ≤ i + length slots = omega arith in
-    lacks_slots least i place slots options given new fits ∙ ap (nat_le least) same
-lacks_after least i place (b ∷ before) slots options given j e old new le =
-    rw (old b.name (first_among b before), lacks_more (nat_lt i least) _)
-    (lacks_after least (i + 1) (place_after place) before slots options given j (omega arith) (λ t h. old t (more_among b before t h)) new le)
+use Rattle.command_words.proofs.Lookups.{apart, next_place, first_arg, place_found, long_found, slot_found, AreNew, first_among, lacks_after}
 
 -- ---- one item after the other
 
@@ -175,7 +51,8 @@ option_none : (a l d : Bool) → false ≡ (a && ((false && l) && d))
 option_none true l d = refl
 option_none false l d = refl
 
-option_test : (h f a l d t : Bool) → (h ≡ false → t ≡ (a && (l && d))) → (d ≡ true → h ≡ false) → ((not h && f) && t) ≡ (a && ((f && l) && d))
+option_test : (h f a l d t : Bool) → (h ≡ false → t ≡ (a && (l && d))) → (d ≡ true → h ≡ false)
+    → ((not h && f) && t) ≡ (a && ((f && l) && d))
 option_test true f a l true t e g = absurd (false≢true (sym (g refl)))
 option_test true f a l false t e g = rw (and_false (f && l)) (sym (and_false a))
 option_test false f a l d t e g = rw (e refl) (option_step false f a l d (λ h. refl))
@@ -194,10 +71,12 @@ among_last t s (x ∷ ts) = rw (among_last t s ts) (sym (or_assoc (bytes_eq x t)
 has_last : (t n x : Text) (given : Given) → has_name t (given ++ (n, x) ∷ []) ≡ (has_name t given || bytes_eq n t)
 has_last t n x given = ap (is_among t) (map-append _ given ((n, x) ∷ [])) ∙ among_last t n (names_in given)
 
-slot_last : (t : Text) (s : Slot) (slots : List Slot) → is_among t (names_of (slots ++ s ∷ [])) ≡ (is_among t (names_of slots) || bytes_eq s.name t)
+slot_last : (t : Text) (s : Slot) (slots : List Slot)
+    → is_among t (names_of (slots ++ s ∷ [])) ≡ (is_among t (names_of slots) || bytes_eq s.name t)
 slot_last t s slots = ap (is_among t) (map-append _ slots (s ∷ [])) ∙ among_last t s.name (names_of slots)
 
-different_last : (ts : List Text) (t : Text) → different ts ≡ true → is_among t ts ≡ false → different (ts ++ t ∷ []) ≡ true
+different_last : (ts : List Text) (t : Text) → different ts ≡ true → is_among t ts ≡ false
+    → different (ts ++ t ∷ []) ≡ true
 different_last [] t d e = refl
 different_last (x ∷ ts) t d e =
     let (head, tail) = and_both (not (is_among x ts)) _ d in
@@ -224,9 +103,11 @@ module _ (u : Usage) (diff : different (names_of u.plains ++ names_of u.options)
   abbrev use_of : List Slot → List Slot → Given → List Item → Bool
   use_of before slots read items =
       (nat_le u.least (length before + length (plains_in items)) && plains_fit slots (plains_in items))
-      && (list_all (option_fits u.options) (options_in items) && different (names_in read ++ names_in (options_in items)))
+      &&
+      (list_all (option_fits u.options) (options_in items) && different (names_in read ++ names_in (options_in items)))
 
-  in_all : (before slots : List Slot) (read given : Given) (i : ℕ) → State before slots read given i → length u.plains ≡ length before + length slots
+  in_all : (before slots : List Slot) (read given : Given) (i : ℕ) → State before slots read given i
+      → length u.plains ≡ length before + length slots
   in_all before slots read given i s = ap length s.split ∙ length-append before slots
 
   state_small : (before slots : List Slot) (read given : Given) (i : ℕ) → State before slots read given i → i ≤ 1001
@@ -235,10 +116,14 @@ module _ (u : Usage) (diff : different (names_of u.plains ++ names_of u.options)
       let at = s.place in
       omega arith
 
-  split_names : (before slots : List Slot) → u.plains ≡ before ++ slots → names_of u.plains ++ names_of u.options ≡ names_of before ++ (names_of slots ++ names_of u.options)
-  split_names before slots e = ap (λ ps. names_of ps ++ names_of u.options) e ∙ ap (λ ns. ns ++ names_of u.options) (map-append _ before slots) ∙ append_assoc (names_of before) (names_of slots) (names_of u.options)
+  split_names : (before slots : List Slot) → u.plains ≡ before ++ slots
+      → names_of u.plains ++ names_of u.options ≡ names_of before ++ (names_of slots ++ names_of u.options)
+  split_names before slots e =
+      ap (λ ps. names_of ps ++ names_of u.options) e ∙ ap (λ ns. ns ++ names_of u.options) (map-append _ before slots)
+      ∙ append_assoc (names_of before) (names_of slots) (names_of u.options)
 
-  slots_new : (before slots : List Slot) (read given : Given) (i : ℕ) → State before slots read given i → AreNew slots given
+  slots_new : (before slots : List Slot) (read given : Given) (i : ℕ) → State before slots read given i
+      → AreNew slots given
   slots_new before slots read given i s t e =
       s.has t ∙ ap₂ (λ b c. b || c) (none_before (is_among t (names_of before)) refl) (none_read (has_name t read) refl)
     where
@@ -249,27 +134,38 @@ module _ (u : Usage) (diff : different (names_of u.plains ++ names_of u.options)
       none_before false h = refl
       none_before true h =
           let none = apart (names_of before) (names_of slots ++ names_of u.options) t parts h in
-          absurd (false≢true (sym (or_false _ _ (sym (list_any-append _ (names_of slots) (names_of u.options)) ∙ none)).0 ∙ e))
+          absurd
+          (false≢true (sym (or_false _ _ (sym (list_any-append _ (names_of slots) (names_of u.options)) ∙ none)).0 ∙ e))
 
       in_plains : is_among t (names_of u.plains) ≡ true
-      in_plains = ap (λ ps. is_among t (names_of ps)) s.split ∙ ap (is_among t) (map-append _ before slots) ∙ list_any-append _ (names_of before) (names_of slots) ∙ rw e (or_true (is_among t (names_of before)))
+      in_plains =
+          ap (λ ps. is_among t (names_of ps)) s.split ∙ ap (is_among t) (map-append _ before slots)
+          ∙ list_any-append _ (names_of before) (names_of slots) ∙ rw e (or_true (is_among t (names_of before)))
 
       none_read : (b : Bool) → has_name t read ≡ b → b ≡ false
       none_read false h = refl
-      none_read true h = absurd (false≢true (sym (apart (names_of u.plains) (names_of u.options) t diff in_plains) ∙ s.known t h))
+      none_read true h =
+          absurd (false≢true (sym (apart (names_of u.plains) (names_of u.options) t diff in_plains) ∙ s.known t h))
 
-  -- an option's name is no plain word's
-  option_only : (before slots : List Slot) (read given : Given) (i : ℕ) (t : Text) → State before slots read given i → is_among t (names_of u.options) ≡ true → has_name t given ≡ has_name t read
-  option_only before slots read given i t s e = s.has t ∙ ap (λ b. b || has_name t read) (none_before (is_among t (names_of before)) refl)
+  -- the name of an option is not the name of a plain word
+  option_only : (before slots : List Slot) (read given : Given) (i : ℕ) (t : Text) → State before slots read given i
+      → is_among t (names_of u.options) ≡ true → has_name t given ≡ has_name t read
+  option_only before slots read given i t s e =
+      s.has t ∙ ap (λ b. b || has_name t read) (none_before (is_among t (names_of before)) refl)
     where
       in_plains : is_among t (names_of before) ≡ true → is_among t (names_of u.plains) ≡ true
-      in_plains h = ap (λ ps. is_among t (names_of ps)) s.split ∙ ap (is_among t) (map-append _ before slots) ∙ list_any-append _ (names_of before) (names_of slots) ∙ rw h refl
+      in_plains h =
+          ap (λ ps. is_among t (names_of ps)) s.split ∙ ap (is_among t) (map-append _ before slots)
+          ∙ list_any-append _ (names_of before) (names_of slots) ∙ rw h refl
 
       none_before : (b : Bool) → is_among t (names_of before) ≡ b → b ≡ false
       none_before false h = refl
-      none_before true h = absurd (false≢true (sym (apart (names_of u.plains) (names_of u.options) t diff (in_plains h)) ∙ e))
+      none_before true h =
+          absurd (false≢true (sym (apart (names_of u.plains) (names_of u.options) t diff (in_plains h)) ∙ e))
 
-  after_plain : (s : Slot) (before slots : List Slot) (read given : Given) (i : ℕ) (w : Text) → State before (s ∷ slots) read given i → State (before ++ s ∷ []) slots read (given ++ (s.name, w) ∷ []) (place_after i)
+  after_plain : (s : Slot) (before slots : List Slot) (read given : Given) (i : ℕ) (w : Text)
+      → State before (s ∷ slots) read given i
+      → State (before ++ s ∷ []) slots read (given ++ (s.name, w) ∷ []) (place_after i)
   after_plain s before slots read given i w st = record {
     split = st.split ∙ sym (append_assoc before (s ∷ []) slots);
     place =
@@ -283,7 +179,8 @@ module _ (u : Usage) (diff : different (names_of u.plains ++ names_of u.options)
     once = st.once;
   }
 
-  after_option : (name v : Text) (before slots : List Slot) (read given : Given) (i : ℕ) → State before slots read given i → is_among name (names_of u.options) ≡ true → has_name name read ≡ false
+  after_option : (name v : Text) (before slots : List Slot) (read given : Given) (i : ℕ)
+      → State before slots read given i → is_among name (names_of u.options) ≡ true → has_name name read ≡ false
       → State before slots (read ++ (name, v) ∷ []) (given ++ (name, v) ∷ []) i
   after_option name v before slots read given i st e new = record {
     split = st.split;
@@ -294,32 +191,46 @@ module _ (u : Usage) (diff : different (names_of u.plains ++ names_of u.options)
     once = ap different (map-append _ read ((name, v) ∷ [])) ∙ different_last (names_in read) name st.once new;
   }
     where
-      known_last : (t : Text) (b c : Bool) → has_name t read ≡ b → bytes_eq name t ≡ c → (b || c) ≡ true → is_among t (names_of u.options) ≡ true
+      known_last : (t : Text) (b c : Bool) → has_name t read ≡ b → bytes_eq name t ≡ c → (b || c) ≡ true
+          → is_among t (names_of u.options) ≡ true
       known_last t true c f g h = st.known t f
-      known_last t false true f g h = subst (λ x. is_among x (names_of u.options) ≡ true) ((bytes_eq-Decides name t).0 g) e
+      known_last t false true f g h =
+          subst (λ x. is_among x (names_of u.options) ≡ true) ((bytes_eq-Decides name t).0 g) e
       known_last t false false f g h = absurd (false≢true h)
 
-  place_here : (before slots : List Slot) (read given : Given) (i : ℕ) → State before slots read given i → by_place (args_for u) i ≡ first_arg u.least (length before) i slots
+  place_here : (before slots : List Slot) (read given : Given) (i : ℕ) → State before slots read given i
+      → by_place (args_for u) i ≡ first_arg u.least (length before) i slots
   place_here before slots read given i st =
       let small = state_small before slots read given i st in
       let at = st.place in
-      subst (λ ps. by_place (plain_args u.least 0 1 ps ++ map option_arg u.options) i ≡ first_arg u.least (length before) i slots) (sym st.split)
+      subst
+      (λ ps. by_place (plain_args u.least 0 1 ps ++ map option_arg u.options) i ≡ first_arg u.least (length before) i slots)
+      (sym st.split)
       (place_found u.least 0 1 before slots u.options (length before) i (omega arith) at (omega arith))
 
-  lacks_here : (before slots : List Slot) (read given : Given) (i : ℕ) → State before slots read given i → not (lacks (args_for u) given) ≡ nat_le u.least (length before)
+  lacks_here : (before slots : List Slot) (read given : Given) (i : ℕ) → State before slots read given i
+      → not (lacks (args_for u) given) ≡ nat_le u.least (length before)
   lacks_here before slots read given i st =
       let all = in_all before slots read given i st in
-      subst (λ ps. not (lacks (plain_args u.least 0 1 ps ++ map option_arg u.options) given) ≡ nat_le u.least (length before)) (sym st.split)
+      subst
+      (λ ps. not (lacks (plain_args u.least 0 1 ps ++ map option_arg u.options) given) ≡ nat_le u.least (length before))
+      (sym st.split)
       (lacks_after u.least 0 1 before slots u.options given (length before) (omega arith) (λ t e. rw (st.has t, e) refl) (slots_new before slots read given i st) (omega arith))
 
-  pushed_names : (name v : Text) (read : Given) (os : List Text) → different (names_in (read ++ (name, v) ∷ []) ++ os) ≡ different (names_in read ++ name ∷ os)
-  pushed_names name v read os = ap different (ap (λ ns. ns ++ os) (map-append _ read ((name, v) ∷ [])) ∙ append_assoc (names_in read) (name ∷ []) os)
+  pushed_names : (name v : Text) (read : Given) (os : List Text)
+      → different (names_in (read ++ (name, v) ∷ []) ++ os) ≡ different (names_in read ++ name ∷ os)
+  pushed_names name v read os =
+      ap different
+      (ap (λ ns. ns ++ os) (map-append _ read ((name, v) ∷ [])) ∙ append_assoc (names_in read) (name ∷ []) os)
 
-  option_used : (name v : Text) (items : List Item) (before slots : List Slot) (read given : Given) (i : ℕ) → State before slots read given i → (o : Option Slot) → slot_named u.options name ≡ o
+  option_used : (name v : Text) (items : List Item) (before slots : List Slot) (read given : Given) (i : ℕ)
+      → State before slots read given i → (o : Option Slot) → slot_named u.options name ≡ o
       → (is_among name (names_of u.options) ≡ true → has_name name given ≡ false → has_name name read ≡ false
       → take_items (args_for u) items (given ++ (name, v) ∷ []) i ≡ use_of before slots (read ++ (name, v) ∷ []) items)
-      → then_use (option_map option_arg o) v given (λ g. take_items (args_for u) items g i) ≡ use_of before slots read (option name v ∷ items)
-  option_used name v items before slots read given i st None e rest = rw e (option_none _ (list_all (option_fits u.options) (options_in items)) (different (names_in read ++ name ∷ names_in (options_in items))))
+      → then_use (option_map option_arg o) v given (λ g. take_items (args_for u) items g i)
+      ≡ use_of before slots read (option name v ∷ items)
+  option_used name v items before slots read given i st None e rest =
+      rw e (option_none _ (list_all (option_fits u.options) (options_in items)) (different (names_in read ++ name ∷ names_in (options_in items))))
   option_used name v items before slots read given i st (Some s) e rest =
       let (same, among) = slot_found u.options name s e in
       let is_read = option_only before slots read given i name st among in
@@ -328,7 +239,8 @@ module _ (u : Usage) (diff : different (names_of u.plains ++ names_of u.options)
       (λ new. rest among new (sym is_read ∙ new) ∙ rw (pushed_names name v read (names_in (options_in items))) refl)
       (λ d. is_read ∙ not_before (names_in read) (names_in (options_in items)) name d))
 
-  are_used : (items : List Item) (before slots : List Slot) (read given : Given) (i : ℕ) → State before slots read given i → take_items (args_for u) items given i ≡ use_of before slots read items
+  are_used : (items : List Item) (before slots : List Slot) (read given : Given) (i : ℕ)
+      → State before slots read given i → take_items (args_for u) items given i ≡ use_of before slots read items
   are_used [] before slots read given i st =
       let none : length before + 0 ≡ length before = omega arith in
       rw (none, append-nil, st.once) (lacks_here before slots read given i st ∙ sym (ends (nat_le u.least (length before))))
@@ -338,10 +250,14 @@ module _ (u : Usage) (diff : different (names_of u.plains ++ names_of u.options)
       ends false = refl
   are_used (plain w ∷ items) before [] read given i st = rw (place_here before [] read given i st) (plain_none _ _)
   are_used (plain w ∷ items) before (s ∷ slots) read given i st =
-      let new : has_name s.name given ≡ false = slots_new before (s ∷ slots) read given i st s.name (first_among s slots) in
-      let rest = are_used items (before ++ s ∷ []) slots read (given ++ (s.name, w) ∷ []) (place_after i) (after_plain s before slots read given i w st) in
+      let new : has_name s.name given ≡ false =
+      slots_new before (s ∷ slots) read given i st s.name (first_among s slots) in
+      let rest =
+      are_used items (before ++ s ∷ []) slots read (given ++ (s.name, w) ∷ []) (place_after i)
+      (after_plain s before slots read given i w st) in
       let longer : length (before ++ s ∷ []) ≡ length before + 1 = length-append before (s ∷ []) in
-      let same : length (before ++ s ∷ []) + length (plains_in items) ≡ length before + length (w ∷ plains_in items) = omega arith in
+      let same : length (before ++ s ∷ []) + length (plains_in items) ≡ length before + length (w ∷ plains_in items) =
+      omega arith in
       rw (place_here before (s ∷ slots) read given i st, new, rest, same) (plain_step (fits s.limit w) _ (plains_fit slots (plains_in items)) _)
   are_used (option name v ∷ items) before slots read given i st =
       rw (long_found u.least 0 1 u.plains u.options name)
@@ -350,26 +266,35 @@ module _ (u : Usage) (diff : different (names_of u.plains ++ names_of u.options)
 
   -- ---- the values
 
-  values_plain : (slots : List Slot) (name v : Text) (items : List Item) → values_in slots (option name v ∷ items) ≡ (name, v) ∷ values_in slots items
+  values_plain : (slots : List Slot) (name v : Text) (items : List Item)
+      → values_in slots (option name v ∷ items) ≡ (name, v) ∷ values_in slots items
   values_plain [] name v items = refl
   values_plain (s ∷ slots) name v items = refl
 
-  place_at : (before slots : List Slot) (i : ℕ) → u.plains ≡ before ++ slots → i ≡ 1 + length before → by_place (args_for u) i ≡ first_arg u.least (length before) i slots
+  place_at : (before slots : List Slot) (i : ℕ) → u.plains ≡ before ++ slots → i ≡ 1 + length before
+      → by_place (args_for u) i ≡ first_arg u.least (length before) i slots
   place_at before slots i split at =
       let all : length u.plains ≡ length before + length slots = ap length split ∙ length-append before slots in
-      subst (λ ps. by_place (plain_args u.least 0 1 ps ++ map option_arg u.options) i ≡ first_arg u.least (length before) i slots) (sym split)
+      subst
+      (λ ps. by_place (plain_args u.least 0 1 ps ++ map option_arg u.options) i ≡ first_arg u.least (length before) i slots)
+      (sym split)
       (place_found u.least 0 1 before slots u.options (length before) i (omega arith) at (omega arith))
 
-  after_option_given : (name v : Text) (given : Given) (o : Option Slot) → slot_named u.options name ≡ o → option_map_or (λ s. fits s.limit v) o false ≡ true → put (option_map option_arg o) v given ≡ given ++ (name, v) ∷ []
+  after_option_given : (name v : Text) (given : Given) (o : Option Slot) → slot_named u.options name ≡ o
+      → option_map_or (λ s. fits s.limit v) o false ≡ true
+      → put (option_map option_arg o) v given ≡ given ++ (name, v) ∷ []
   after_option_given name v given None e known = absurd (false≢true known)
   after_option_given name v given (Some s) e known = ap (λ n. given ++ (n, v) ∷ []) (slot_found u.options name s e).0
 
-  values_are : (items : List Item) (before slots : List Slot) (given : Given) (i : ℕ) → u.plains ≡ before ++ slots → i ≡ 1 + length before
-      → plains_fit slots (plains_in items) ≡ true → list_all (option_fits u.options) (options_in items) ≡ true → given_after (args_for u) items given i ≡ given ++ values_in slots items
+  values_are : (items : List Item) (before slots : List Slot) (given : Given) (i : ℕ) → u.plains ≡ before ++ slots
+      → i ≡ 1 + length before
+      → plains_fit slots (plains_in items) ≡ true → list_all (option_fits u.options) (options_in items) ≡ true
+      → given_after (args_for u) items given i ≡ given ++ values_in slots items
   values_are [] before slots given i split at plains options = sym (append-nil given)
   values_are (plain w ∷ items) before [] given i split at plains options = absurd (false≢true plains)
   values_are (plain w ∷ items) before (s ∷ slots) given i split at plains options =
-      let all : length u.plains ≡ length before + length (s ∷ slots) = ap length split ∙ length-append before (s ∷ slots) in
+      let all : length u.plains ≡ length before + length (s ∷ slots) =
+      ap length split ∙ length-append before (s ∷ slots) in
       let longer : length (before ++ s ∷ []) ≡ length before + 1 = length-append before (s ∷ []) in
       let (here, rest) = and_both (fits s.limit w) _ plains in
       let next : place_after i ≡ 1 + length (before ++ s ∷ []) = next_place i (omega arith) ∙ omega arith in
@@ -380,23 +305,31 @@ module _ (u : Usage) (diff : different (names_of u.plains ++ names_of u.options)
       rw (long_found u.least 0 1 u.plains u.options name, after_option_given name v given (slot_named u.options name) refl here, values_plain slots name v items)
       (values_are items before slots (given ++ (name, v) ∷ []) i split at plains rest ∙ append_assoc given ((name, v) ∷ []) (values_in slots items))
 
-  pub use_values : (items : List Item) → is_use u items ≡ true → given_after (args_for u) items [] 1 ≡ values_in u.plains items
+  pub use_values : (items : List Item) → is_use u items ≡ true
+      → given_after (args_for u) items [] 1 ≡ values_in u.plains items
   use_values items e =
-      let (plains, options) = and_both (nat_le u.least (length (plains_in items)) && plains_fit u.plains (plains_in items)) _ e in
-      values_are items [] u.plains [] 1 refl (omega arith) (and_both (nat_le u.least (length (plains_in items))) _ plains).1 (and_both (list_all (option_fits u.options) (options_in items)) _ options).0
+      let (plains, options) =
+      and_both (nat_le u.least (length (plains_in items)) && plains_fit u.plains (plains_in items)) _ e in
+      values_are items [] u.plains [] 1 refl (omega arith)
+      (and_both (nat_le u.least (length (plains_in items))) _ plains).1
+      (and_both (list_all (option_fits u.options) (options_in items)) _ options).0
 
   pub take_is_use : (items : List Item) → take_items (args_for u) items [] 1 ≡ is_use u items
   take_is_use items =
       let zero_more : 0 + length (plains_in items) ≡ length (plains_in items) = omega arith in
-      are_used items [] u.plains [] [] 1 (record { split = refl; place = omega arith; has = λ t. refl; known = λ t e. absurd (false≢true e); once = refl })
+      are_used items [] u.plains [] [] 1
+      (record { split = refl; place = omega arith; has = λ t. refl; known = λ t e. absurd (false≢true e); once = refl })
       ∙ rw zero_more refl
 
-plain_ids : (least i place : ℕ) (slots options : List Slot) → ids_of (plain_args least i place slots ++ map option_arg options) ≡ names_of slots ++ names_of options
+plain_ids : (least i place : ℕ) (slots options : List Slot)
+    → ids_of (plain_args least i place slots ++ map option_arg options) ≡ names_of slots ++ names_of options
 plain_ids least i place [] [] = refl
 plain_ids least i place [] (s ∷ options) = ap (λ ns. s.name ∷ ns) (plain_ids least i place [] options)
-plain_ids least i place (s ∷ slots) options = ap (λ ns. s.name ∷ ns) (plain_ids least (i + 1) (place_after place) slots options)
+plain_ids least i place (s ∷ slots) options =
+    ap (λ ns. s.name ∷ ns) (plain_ids least (i + 1) (place_after place) slots options)
 
-sound_parts : (u : Usage) → is_sound u ≡ true → (different (names_of u.plains ++ names_of u.options) ≡ true) × (u.least ≤ length u.plains) × (length u.plains ≤ 1000)
+sound_parts : (u : Usage) → is_sound u ≡ true
+    → (different (names_of u.plains ++ names_of u.options) ≡ true) × (u.least ≤ length u.plains) × (length u.plains ≤ 1000)
 sound_parts u e =
     let (diff, sizes) = and_both (different (names_of u.plains ++ names_of u.options)) _ e in
     let (enough, few) = and_both (nat_le u.least (length u.plains)) _ sizes in
@@ -405,8 +338,10 @@ sound_parts u e =
 pub sound_different : (u : Usage) → is_sound u ≡ true → are_different (args_for u) ≡ true
 sound_different u e = ap different (plain_ids u.least 0 1 u.plains u.options) ∙ (sound_parts u e).0
 
-pub sound_use : (u : Usage) → is_sound u ≡ true → (items : List Item) → take_items (args_for u) items [] 1 ≡ is_use u items
+pub sound_use : (u : Usage) → is_sound u ≡ true → (items : List Item)
+    → take_items (args_for u) items [] 1 ≡ is_use u items
 sound_use u e items = let (diff, enough, few) = sound_parts u e in take_is_use u diff enough few items
 
-pub sound_values : (u : Usage) → is_sound u ≡ true → (items : List Item) → is_use u items ≡ true → given_after (args_for u) items [] 1 ≡ values_in u.plains items
+pub sound_values : (u : Usage) → is_sound u ≡ true → (items : List Item) → is_use u items ≡ true
+    → given_after (args_for u) items [] 1 ≡ values_in u.plains items
 sound_values u e items used = let (diff, enough, few) = sound_parts u e in use_values u diff enough few items used

@@ -1,148 +1,25 @@
--- What a command of the table makes of the words after it.
-use Rattle.std.proofs.Common.{◌≡◌, cond, ℕ, ◌==◌, List, [], ◌∷◌, ◌++◌, map, fold, find, Option, Some, None, option_map, is_some, Bool, true, false, not, ◌&&◌, length, slice_get, refl, ap, sym, subst, ◌∙◌}
+-- What clap makes of the words after a command of the table. Its walk over the words is followed word by word, together with
+-- the items that the words say: at each point what is left of the walk passes exactly if the items that are left pass.
+use Rattle.std.proofs.Common.{◌≡◌, cond, ℕ, List, [], ◌∷◌, ◌++◌, map, fold, find, Option, Some, None, option_map, is_some, Bool, true, false, not, ◌&&◌, length, slice_get, refl, ap, sym, subst, ◌∙◌}
 use Rattle.std.proofs.lemmas.Bool.{false≢true}
 use Rattle.std.proofs.lemmas.Option.{same_Some}
 use Rattle.std.specs.List.{list_any}
-use Rattle.std.specs.Str.{bytes_eq, chars}
-use Rattle.std.specs.Bool.{if◌then◌else◌}
-use Rattle.std.specs.Option.{option_map_or}
+use Rattle.std.specs.Str.{chars}
 use Rattle.clap.specs.Lexer.{long_of, short_of}
-use Rattle.clap.specs.Walk.{plain_word, Held, Row, Rule, Text, Waiting, idle, value, Walk, after_flag, after_step, arg_by_id, arg_by_index, arg_by_long, has_long, has_short, long_met, used, with_default, nothing_held, rows_after, settled, finished, walked}
+use Rattle.clap.specs.Walk.{plain_word, Held, Row, Rule, Text, Waiting, idle, value, Walk, after_flag, after_step, arg_by_id, arg_by_index, arg_by_long, has_short, long_met, used, with_default, nothing_held, rows_after, settled, finished, walked}
 use Rattle.clap.specs.Walk.{option as waits_for}
-use Rattle.clap.specs.Simple.{Shape, new_shape}
+use Rattle.clap.specs.Simple.{Shape}
 use Rattle.clap.specs.Takes.{is_given}
 use Rattle.clap.specs.Kinds.{Kinds, check_kinds, or_else}
 use Rattle.clap.specs.Faults.{check_fault, default_fault, defaults_fault, flags_fault, level_fault, long_fault, settle_fault, step_fault, turn_fault, use_fault, walk_fault}
 use Rattle.clap.specs.declared.error.kind.ErrorKind.TheVariants as kind
 use Rattle.command_words.specs.Words.{Item, plain, option}
-use Rattle.command_words.specs.Rows.{has_name}
 use Rattle.command_words.proofs.Items.{Items, Rest, more, items_by, rest_by, items_of, rest_of, form_by, long_form}
 use Rattle.command_words.specs.Rows.{rows_for}
 use Rattle.command_words.proofs.Args.{Arg, rule_at, are_different, find_map, found_named, named, place_after, same_text}
 use Rattle.command_words.proofs.Rows.{Given, empty, is_given_row, passes, use_is, used_rows}
 use Rattle.command_words.proofs.Bools.{and_false, or_true, and_both, or_else_end}
-
--- a command with these arguments, as it is built below the one that has the table
-abbrev pub leaf : Text → List Arg → Shape
-leaf name args = record (new_shape name) { rules = map rule_at args; disable_help_flag = true; disable_help_subcommand = true; is_built = true }
-
--- ---- which arguments words mean, and what the items do to what was given
-
-abbrev pub by_long : List Arg → Text → Option Arg
-by_long args name = find (λ a. not (is_some (rule_at a).index) && has_long (rule_at a) name) args
-
-abbrev pub by_place : List Arg → ℕ → Option Arg
-by_place args i = find (λ a. option_map_or (λ k. k == i) (rule_at a).index false) args
-
--- a required argument was not given
-abbrev pub lacks : List Arg → Given → Bool
-lacks args given = list_any (λ a. a.required && not (has_name a.id given)) args
-
-abbrev pub then_use : Option Arg → Text → Given → (Given → Bool) → Bool
-then_use None x given next = false
-then_use (Some a) x given next = passes a x given && next (given ++ (a.id, x) ∷ [])
-
--- the items pass, one by one, from the place i on
-abbrev pub take_items : List Arg → List Item → Given → ℕ → Bool
-take_items args [] given i = not (lacks args given)
-take_items args (plain w ∷ is) given i = then_use (by_place args i) w given (λ g. take_items args is g (place_after i))
-take_items args (option name v ∷ is) given i = then_use (by_long args name) v given (λ g. take_items args is g i)
-
--- what was given after an item, and after all the items
-abbrev pub put : Option Arg → Text → Given → Given
-put None x given = given
-put (Some a) x given = given ++ (a.id, x) ∷ []
-
-abbrev pub given_after : List Arg → List Item → Given → ℕ → Given
-given_after args [] given i = given
-given_after args (plain w ∷ is) given i = given_after args is (put (by_place args i) w given) (place_after i)
-given_after args (option name v ∷ is) given i = given_after args is (put (by_long args name) v given) i
-
--- ---- small facts
-
-pub from_more : (x : Item) (items : Items) (is : List Item) (P : List Item → Type 0) → more x items ≡ Some is → ((js : List Item) → items ≡ Some js → P (x ∷ js)) → P is
-from_more x None is P e h = cc
-from_more x (Some js) is P e h = subst P (same_Some (x ∷ js) is e) (h js refl)
-
-pub from_rest : (name : Text) (rest : Rest) (is : List Item) (P : List Item → Type 0) → option_map (λ r. option name r.0 ∷ r.1) rest ≡ Some is → ((r : Text × List Item) → rest ≡ Some r → P (option name r.0 ∷ r.1)) → P is
-from_rest name None is P e h = cc
-from_rest name (Some r) is P e h = subst P (same_Some (option name r.0 ∷ r.1) is e) (h r refl)
-
-and_true_left : (a b : Bool) → (a && b) ≡ true → a ≡ true
-and_true_left true b e = refl
-and_true_left false b e = e
-
-not_given : (a : Arg) (x : Text) (given : Given) → passes a x given ≡ true → has_name a.id given ≡ false
-not_given a x given e = tested (has_name a.id given) (and_true_left (not (has_name a.id given)) _ e)
-  where
-    tested : (b : Bool) → not b ≡ true → b ≡ false
-    tested true e = absurd (false≢true e)
-    tested false e = refl
-
-or_else_assoc : (a b c : Kinds) → or_else (or_else a b) c ≡ or_else a (or_else b c)
-or_else_assoc [] b c = refl
-or_else_assoc (k ∷ ks) b c = refl
-
--- the second fault counts where the first is none
-both_pass : (a b : Kinds) (s t : Bool) → empty a ≡ s → (s ≡ true → empty b ≡ t) → empty (or_else a b) ≡ (s && t)
-both_pass [] b s t e h = rw (← e) (h (sym e))
-both_pass (k ∷ ks) b s t e h = rw (← e) refl
-
-either_way : (b : Bool) (rows : List Row) → (if b then rows else rows) ≡ rows
-either_way true rows = refl
-either_way false rows = refl
-
--- ---- items behind an item
-
-abbrev all_items : (List Item → Bool) → Items → Bool
-all_items p items = option_map_or p items false
-
-use_none : (o : Option Arg) (x : Text) (given : Given) → then_use o x given (λ g. false) ≡ false
-use_none None x given = refl
-use_none (Some a) x given = and_false _
-
-plain_more : (args : List Arg) (w : Text) (items : Items) (given : Given) (i : ℕ)
-    → all_items (λ is. take_items args is given i) (more (plain w) items) ≡ then_use (by_place args i) w given (λ g. all_items (λ is. take_items args is g (place_after i)) items)
-plain_more args w None given i = sym (use_none (by_place args i) w given)
-plain_more args w (Some is) given i = refl
-
-option_more : (args : List Arg) (name v : Text) (items : Items) (given : Given) (i : ℕ)
-    → all_items (λ is. take_items args is given i) (more (option name v) items) ≡ then_use (by_long args name) v given (λ g. all_items (λ is. take_items args is g i) items)
-option_more args name v None given i = sym (use_none (by_long args name) v given)
-option_more args name v (Some is) given i = refl
-
--- the option's value stands next
-abbrev value_next : List Arg → Option Arg → Given → ℕ → Rest → Bool
-value_next args o given i rest = option_map_or (λ r. then_use o r.0 given (λ g. take_items args r.1 g i)) rest false
-
-rest_more : (args : List Arg) (name : Text) (rest : Rest) (given : Given) (i : ℕ)
-    → all_items (λ is. take_items args is given i) (option_map (λ r. option name r.0 ∷ r.1) rest) ≡ value_next args (by_long args name) given i rest
-rest_more args name None given i = refl
-rest_more args name (Some r) given i = refl
-
-value_here : (args : List Arg) (o : Option Arg) (w : Text) (items : Items) (given : Given) (i : ℕ)
-    → value_next args o given i (option_map (λ is. (w, is)) items) ≡ then_use o w given (λ g. all_items (λ is. take_items args is g i) items)
-value_here args o w None given i = sym (use_none o w given)
-value_here args o w (Some is) given i = refl
-
-value_unknown : (args : List Arg) (rest : Rest) (given : Given) (i : ℕ) → value_next args None given i rest ≡ false
-value_unknown args None given i = refl
-value_unknown args (Some r) given i = refl
-
--- ---- words that are text
-
--- the word is not `--`, and a bundle of flags has a first character, as in a text
-pub record IsWord (w : Text) : Type 0 where
-  pub not_dashes : bytes_eq w (45 ∷ 45 ∷ []) ≡ false
-  pub flagged : (flags : Text) → short_of w ≡ Some flags → (c : ℕ) × (slice_get (chars flags) 0 ≡ Some c)
-
-abbrev pub AreWords : List Text → Type 0
-AreWords [] = Unit {0}
-AreWords (w ∷ ws) = IsWord w × AreWords ws
-
-pub no_chars : (c : ℕ) → slice_get (chars []) 0 ≡ Some c → ⊥
-unfolding chars
-no_chars c e = cc
+use Rattle.command_words.proofs.Passing.{leaf, by_long, by_place, lacks, then_use, take_items, put, given_after, from_more, from_rest, not_given, or_else_assoc, both_pass, either_way, all_items, plain_more, option_more, value_next, rest_more, value_here, value_unknown, IsWord, AreWords, no_chars}
 
 -- ---- the walk of clap
 
@@ -181,9 +58,11 @@ no_defaults (a ∷ args) rows = rw (no_default_fault a rows, no_default a rows) 
 
 pub rows_finished : (args : List Arg) (rows : List Row) → fold with_default rows (map rule_at args) ≡ rows
 rows_finished [] rows = refl
-rows_finished (a ∷ args) rows = ap (λ r. fold with_default r (map rule_at args)) (no_default a rows) ∙ rows_finished args rows
+rows_finished (a ∷ args) rows =
+    ap (λ r. fold with_default r (map rule_at args)) (no_default a rows) ∙ rows_finished args rows
 
-lacks_row : (args : List Arg) (given : Given) → list_any (λ r. r.required && not (is_given r.id (rows_for given))) (map rule_at args) ≡ lacks args given
+lacks_row : (args : List Arg) (given : Given)
+    → list_any (λ r. r.required && not (is_given r.id (rows_for given))) (map rule_at args) ≡ lacks args given
 lacks_row [] given = refl
 lacks_row (a ∷ args) given = rw (is_given_row a.id given, lacks_row args given)
 
@@ -199,7 +78,9 @@ module _ (name : Text) (args : List Arg) (different : are_different args ≡ tru
   shape = leaf name args
 
   abbrev ending : Held → Kinds
-  ending h = or_else (settle_fault rules false h) (or_else (defaults_fault (settled rules h).rows rules) (check_fault shape (finished rules h) false))
+  ending h =
+      or_else (settle_fault rules false h)
+      (or_else (defaults_fault (settled rules h).rows rules) (check_fault shape (finished rules h) false))
 
   abbrev total : Walk → List Text → Kinds
   total w ws = or_else (walk_fault shape [] w ws) (ending (fold (walked rules []) w ws).held)
@@ -207,7 +88,8 @@ module _ (name : Text) (args : List Arg) (different : are_different args ≡ tru
   starts : (ws : List Text) → level_fault shape [] nothing_held ws false [] ≡ total (walk_at [] None idle 1) ws
   starts ws = refl
 
-  one_step : (w : Walk) (word : Text) (ws : List Text) → total w (word ∷ ws) ≡ or_else (turn_fault shape [] w word) (total (walked rules [] w word) ws)
+  one_step : (w : Walk) (word : Text) (ws : List Text)
+      → total w (word ∷ ws) ≡ or_else (turn_fault shape [] w word) (total (walked rules [] w word) ws)
   unfolding walk_fault
   one_step w word ws = or_else_assoc (turn_fault shape [] w word) _ _
 
@@ -228,27 +110,34 @@ module _ (name : Text) (args : List Arg) (different : are_different args ≡ tru
   IsKnownPending None = Unit {0}
   IsKnownPending (Some p) = IsKnown p.0
 
-  settles : (given : Given) (p : Pending) → IsKnownPending p → empty (settle_fault rules false (held_with given (pend p))) ≡ settle_of given p
+  settles : (given : Given) (p : Pending) → IsKnownPending p
+      → empty (settle_fault rules false (held_with given (pend p))) ≡ settle_of given p
   settles given None known = refl
   settles given (Some (a, x)) known = rw (rule_named a.id, known) (use_is a x given)
 
-  settled_are : (given : Given) (p : Pending) → IsKnownPending p → settle_of given p ≡ true → (settled rules (held_with given (pend p))).rows ≡ rows_for (after given p)
+  settled_are : (given : Given) (p : Pending) → IsKnownPending p → settle_of given p ≡ true
+      → (settled rules (held_with given (pend p))).rows ≡ rows_for (after given p)
   settled_are given None known ok = refl
   settled_are given (Some (a, x)) known ok = rw (rule_named a.id, known) (used_rows a x given (not_given a x given ok))
 
-  checked : (rows : List Row) (given : Given) → rows ≡ rows_for given → empty (or_else (defaults_fault rows rules) (check_fault shape (fold with_default rows rules) false)) ≡ not (lacks args given)
-  checked rows given e = rw (no_defaults args rows, rows_finished args rows, e, lacks_row args given) (end_test (lacks args given))
+  checked : (rows : List Row) (given : Given) → rows ≡ rows_for given
+      → empty (or_else (defaults_fault rows rules) (check_fault shape (fold with_default rows rules) false)) ≡ not (lacks args given)
+  checked rows given e =
+      rw (no_defaults args rows, rows_finished args rows, e, lacks_row args given) (end_test (lacks args given))
 
-  idle_ends : (given : Given) (p : Pending) (i : ℕ) → IsKnownPending p → empty (total (walk_at given (pend p) idle i) []) ≡ (settle_of given p && not (lacks args (after given p)))
+  idle_ends : (given : Given) (p : Pending) (i : ℕ) → IsKnownPending p
+      → empty (total (walk_at given (pend p) idle i) []) ≡ (settle_of given p && not (lacks args (after given p)))
   unfolding walk_fault
-  idle_ends given p i known = both_pass _ _ _ _ (settles given p known) (λ ok. checked _ (after given p) (settled_are given p known ok))
+  idle_ends given p i known =
+      both_pass _ _ _ _ (settles given p known) (λ ok. checked _ (after given p) (settled_are given p known ok))
 
-  -- ---- one word, where nothing waits
+  -- ---- one word, if no option waits for its value
 
-  -- what holds of the words behind it
+  -- what holds of the words after it
   record Behind (ws : List Text) (items : Items) (rest : Rest) : Type 0 where
     at_idle : (given : Given) (p : Pending) (i : ℕ) → IsKnownPending p
-        → empty (total (walk_at given (pend p) idle i) ws) ≡ (settle_of given p && all_items (λ is. take_items args is (after given p) i) items)
+        → empty (total (walk_at given (pend p) idle i) ws)
+        ≡ (settle_of given p && all_items (λ is. take_items args is (after given p) i) items)
     at_wait : (given : Given) (a : Arg) (i : ℕ) → IsKnown a
         → empty (total (walk_at given (Some (a.id, [])) (waits_for a.id) i) ws) ≡ value_next args (Some a) given i rest
 
@@ -257,22 +146,28 @@ module _ (name : Text) (args : List Arg) (different : are_different args ≡ tru
   long_turned r v w word ws =
       let met = long_met rules r v w.held in
       let step = after_flag rules w.waiting word met.0 met.1 in
-      or_else (or_else (long_fault rules false r v w.held) (step_fault shape w.position step.0 step.1)) (total (after_step rules word w step.0 step.1) ws)
+      or_else (or_else (long_fault rules false r v w.held) (step_fault shape w.position step.0 step.1))
+      (total (after_step rules word w step.0 step.1) ws)
 
-  attaches_from : (a : Arg) (given : Given) (i : ℕ) (v : Text) (ws : List Text) (items : Items) (rest : Rest) (rows : List Row) → Behind ws items rest → rows ≡ rows_for given
+  attaches_from : (a : Arg) (given : Given) (i : ℕ) (v : Text) (ws : List Text) (items : Items) (rest : Rest) (rows : List Row)
+      → Behind ws items rest → rows ≡ rows_for given
       → empty (or_else (use_fault false (rule_at a) (v ∷ []) rows) (total (record (walk_at given None idle i) { held = record { rows = used (rule_at a) (v ∷ []) rows; pending = None; skip = 0 } }) ws))
       ≡ (passes a v given && all_items (λ is. take_items args is (given ++ (a.id, v) ∷ []) i) items)
   attaches_from a given i v ws items rest rows behind e =
       rw (e) (both_pass _ _ _ _ (use_is a v given) (λ fine. rw (used_rows a v given (not_given a v given fine)) (behind.at_idle (given ++ (a.id, v) ∷ []) None i tt)))
 
-  attaches : (a : Arg) (given : Given) (p : Pending) (i : ℕ) (v word : Text) (ws : List Text) (items : Items) (rest : Rest) → Behind ws items rest → IsKnownPending p
+  attaches : (a : Arg) (given : Given) (p : Pending) (i : ℕ) (v word : Text) (ws : List Text) (items : Items) (rest : Rest)
+      → Behind ws items rest → IsKnownPending p
       → empty (long_turned (Some (rule_at a)) (Some v) (walk_at given (pend p) idle i) word ws)
-      ≡ (settle_of given p && (passes a v (after given p) && all_items (λ is. take_items args is (after given p ++ (a.id, v) ∷ []) i) items))
+      ≡
+      (settle_of given p && (passes a v (after given p) && all_items (λ is. take_items args is (after given p ++ (a.id, v) ∷ []) i) items))
   attaches a given p i v word ws items rest behind known =
       rw (or_else_end _, or_else_assoc) (both_pass _ _ _ _ (settles given p known) (λ ok. attaches_from a (after given p) i v ws items rest _ behind (settled_are given p known ok)))
 
-  bares : (a : Arg) (given : Given) (p : Pending) (i : ℕ) (word : Text) (ws : List Text) (items : Items) (rest : Rest) → Behind ws items rest → IsKnownPending p → IsKnown a
-      → empty (long_turned (Some (rule_at a)) None (walk_at given (pend p) idle i) word ws) ≡ (settle_of given p && value_next args (Some a) (after given p) i rest)
+  bares : (a : Arg) (given : Given) (p : Pending) (i : ℕ) (word : Text) (ws : List Text) (items : Items) (rest : Rest)
+      → Behind ws items rest → IsKnownPending p → IsKnown a
+      → empty (long_turned (Some (rule_at a)) None (walk_at given (pend p) idle i) word ws)
+      ≡ (settle_of given p && value_next args (Some a) (after given p) i rest)
   bares a given p i word ws items rest behind known is =
       rw (or_else_end _) (both_pass _ _ _ _ (settles given p known) (λ ok. rw (settled_are given p known ok) (behind.at_wait (after given p) a i is)))
 
@@ -282,33 +177,45 @@ module _ (name : Text) (args : List Arg) (different : are_different args ≡ tru
   known_place : (i : ℕ) (a : Arg) → by_place args i ≡ Some a → IsKnown a
   known_place i a e = found_named _ args a different e
 
-  long_cases : (o : Option Arg) (long : Text) (v : Option Text) (given : Given) (p : Pending) (i : ℕ) (word : Text) (ws : List Text) (items : Items) (rest : Rest) → by_long args long ≡ o → Behind ws items rest → IsKnownPending p
-      → empty (long_turned (option_map rule_at o) v (walk_at given (pend p) idle i) word ws) ≡ (settle_of given p && all_items (λ is. take_items args is (after given p) i) (items_by (long_form long v) word items rest))
-  long_cases None long (Some v) given p i word ws items rest o behind known = rw (option_more args long v items (after given p) i, o) (sym (and_false _))
-  long_cases None long None given p i word ws items rest o behind known = rw (rest_more args long rest (after given p) i, o, value_unknown args rest (after given p) i) (sym (and_false _))
-  long_cases (Some a) long (Some v) given p i word ws items rest o behind known = rw (option_more args long v items (after given p) i, o) (attaches a given p i v word ws items rest behind known)
-  long_cases (Some a) long None given p i word ws items rest o behind known = rw (rest_more args long rest (after given p) i, o) (bares a given p i word ws items rest behind known (known_long long a o))
+  long_cases : (o : Option Arg) (long : Text) (v : Option Text) (given : Given) (p : Pending) (i : ℕ) (word : Text) (ws : List Text) (items : Items) (rest : Rest)
+      → by_long args long ≡ o → Behind ws items rest → IsKnownPending p
+      → empty (long_turned (option_map rule_at o) v (walk_at given (pend p) idle i) word ws)
+      ≡ (settle_of given p && all_items (λ is. take_items args is (after given p) i) (items_by (long_form long v) word items rest))
+  long_cases None long (Some v) given p i word ws items rest o behind known =
+      rw (option_more args long v items (after given p) i, o) (sym (and_false _))
+  long_cases None long None given p i word ws items rest o behind known =
+      rw (rest_more args long rest (after given p) i, o, value_unknown args rest (after given p) i) (sym (and_false _))
+  long_cases (Some a) long (Some v) given p i word ws items rest o behind known =
+      rw (option_more args long v items (after given p) i, o) (attaches a given p i v word ws items rest behind known)
+  long_cases (Some a) long None given p i word ws items rest o behind known =
+      rw (rest_more args long rest (after given p) i, o) (bares a given p i word ws items rest behind known (known_long long a o))
 
   -- no option has a short name
   short_fails : (c : List Arg) (x : ℕ) → find (λ r. not (is_some r.index) && has_short r x) (map rule_at c) ≡ None
   short_fails [] x = refl
   short_fails (a ∷ c) x = step a.place (short_fails c x)
     where
-      step : (o : Option ℕ) → find (λ r. not (is_some r.index) && has_short r x) (map rule_at c) ≡ None → cond (not (is_some o) && false) (Some (rule_at a)) (find (λ r. not (is_some r.index) && has_short r x) (map rule_at c)) ≡ None
+      step : (o : Option ℕ) → find (λ r. not (is_some r.index) && has_short r x) (map rule_at c) ≡ None
+          → cond (not (is_some o) && false) (Some (rule_at a)) (find (λ r. not (is_some r.index) && has_short r x) (map rule_at c)) ≡ None
       step None e = e
       step (Some k) e = e
 
-  bundle_fails : (flags : Text) (c : ℕ) (h : Held) → slice_get (chars flags) 0 ≡ Some c → flags_fault rules false (length flags) flags 0 h ≡ kind.UnknownArgument ∷ []
+  bundle_fails : (flags : Text) (c : ℕ) (h : Held) → slice_get (chars flags) 0 ≡ Some c
+      → flags_fault rules false (length flags) flags 0 h ≡ kind.UnknownArgument ∷ []
   unfolding flags_fault
   bundle_fails [] c h e = absurd (no_chars c e)
   bundle_fails (x ∷ xs) c h e = rw (e, short_fails args c) refl
 
   abbrev plain_turned : Walk → Text → List Text → Kinds
-  plain_turned w word ws = or_else (step_fault shape w.position w.held value) (total (after_step rules word w w.held value) ws)
+  plain_turned w word ws =
+      or_else (step_fault shape w.position w.held value) (total (after_step rules word w w.held value) ws)
 
-  plain_cases : (o : Option Arg) (given : Given) (p : Pending) (i : ℕ) (word : Text) (ws : List Text) (items : Items) (rest : Rest) → by_place args i ≡ o → Behind ws items rest → IsKnownPending p
-      → empty (plain_turned (walk_at given (pend p) idle i) word ws) ≡ (settle_of given p && all_items (λ is. take_items args is (after given p) i) (more (plain word) items))
-  plain_cases None given p i word ws items rest o behind known = rw (plain_more args word items (after given p) i, rule_by_place i, o) (sym (and_false _))
+  plain_cases : (o : Option Arg) (given : Given) (p : Pending) (i : ℕ) (word : Text) (ws : List Text) (items : Items) (rest : Rest)
+      → by_place args i ≡ o → Behind ws items rest → IsKnownPending p
+      → empty (plain_turned (walk_at given (pend p) idle i) word ws)
+      ≡ (settle_of given p && all_items (λ is. take_items args is (after given p) i) (more (plain word) items))
+  plain_cases None given p i word ws items rest o behind known =
+      rw (plain_more args word items (after given p) i, rule_by_place i, o) (sym (and_false _))
   plain_cases (Some a) given p i word ws items rest o behind known =
       rw (plain_more args word items (after given p) i, rule_by_place i, o, and_false _)
       (both_pass _ _ _ _ (settles given p known) (λ ok. rw (settled_are given p known ok) (behind.at_idle (after given p) (Some (a, word)) (place_after i) (known_place i a o))))
@@ -318,21 +225,27 @@ module _ (name : Text) (args : List Arg) (different : are_different args ≡ tru
 
   idle_tested : (l : Option (Text × Option Text)) (short : Option Text) (given : Given) (p : Pending) (i : ℕ) (word : Text) (ws : List Text) (items : Items) (rest : Rest)
       → long_of word ≡ l → short_of word ≡ short → IsWord word → Behind ws items rest → IsKnownPending p
-      → empty (turned (walk_at given (pend p) idle i) word ws) ≡ (settle_of given p && all_items (λ is. take_items args is (after given p) i) (items_by (form_by l short) word items rest))
+      → empty (turned (walk_at given (pend p) idle i) word ws)
+      ≡ (settle_of given p && all_items (λ is. take_items args is (after given p) i) (items_by (form_by l short) word items rest))
   unfolding walked
-  idle_tested (Some (long, v)) short given p i word ws items rest lw sw is behind known = rw (is.not_dashes, lw, rule_by_long long) (long_cases (by_long args long) long v given p i word ws items rest refl behind known)
-  idle_tested None (Some flags) given p i word ws items rest lw sw is behind known = rw (is.not_dashes, lw, sw, bundle_fails flags (is.flagged flags sw).0 _ (is.flagged flags sw).1) (sym (and_false _))
-  idle_tested None None given p i word ws items rest lw sw is behind known = rw (is.not_dashes, lw, sw) (plain_cases (by_place args i) given p i word ws items rest refl behind known)
+  idle_tested (Some (long, v)) short given p i word ws items rest lw sw is behind known =
+      rw (is.not_dashes, lw, rule_by_long long) (long_cases (by_long args long) long v given p i word ws items rest refl behind known)
+  idle_tested None (Some flags) given p i word ws items rest lw sw is behind known =
+      rw (is.not_dashes, lw, sw, bundle_fails flags (is.flagged flags sw).0 _ (is.flagged flags sw).1) (sym (and_false _))
+  idle_tested None None given p i word ws items rest lw sw is behind known =
+      rw (is.not_dashes, lw, sw) (plain_cases (by_place args i) given p i word ws items rest refl behind known)
 
-  -- ---- one word, where an option waits for its value
+  -- ---- one word, if an option waits for its value
 
-  settle_waiting : (a : Arg) (given : Given) → IsKnown a → settle_fault rules false (held_with given (Some (a.id, []))) ≡ kind.InvalidValue ∷ []
+  settle_waiting : (a : Arg) (given : Given) → IsKnown a
+      → settle_fault rules false (held_with given (Some (a.id, []))) ≡ kind.InvalidValue ∷ []
   settle_waiting a given known = rw (rule_named a.id, known) refl
 
   abbrev wait_at : Given → Arg → ℕ → Walk
   wait_at given a i = walk_at given (Some (a.id, [])) (waits_for a.id) i
 
-  wait_long : (o : Option Arg) (v : Option Text) (given : Given) (a : Arg) (i : ℕ) (word : Text) (ws : List Text) → IsKnown a
+  wait_long : (o : Option Arg) (v : Option Text) (given : Given) (a : Arg) (i : ℕ) (word : Text) (ws : List Text)
+      → IsKnown a
       → empty (long_turned (option_map rule_at o) v (wait_at given a i) word ws) ≡ false
   wait_long None v given a i word ws known = refl
   wait_long (Some b) (Some v) given a i word ws known = rw (settle_waiting a given known) refl
@@ -343,19 +256,24 @@ module _ (name : Text) (args : List Arg) (different : are_different args ≡ tru
       let met = plain_word rules w.waiting word w.held in
       or_else (step_fault shape w.position met.0 met.1) (total (after_step rules word w met.0 met.1) ws)
 
-  wait_plain : (given : Given) (a : Arg) (i : ℕ) (word : Text) (ws : List Text) → IsKnown a → wait_plain_turned (wait_at given a i) word ws ≡ total (walk_at given (Some (a.id, word ∷ [])) idle i) ws
+  wait_plain : (given : Given) (a : Arg) (i : ℕ) (word : Text) (ws : List Text) → IsKnown a
+      → wait_plain_turned (wait_at given a i) word ws ≡ total (walk_at given (Some (a.id, word ∷ [])) idle i) ws
   wait_plain given a i word ws known = rw (rule_named a.id, known, same_text a.id) refl
 
-  long_is_no_value : (long : Text) (v : Option Text) (word : Text) (items : Items) → rest_by (long_form long v) word items ≡ None
+  long_is_no_value : (long : Text) (v : Option Text) (word : Text) (items : Items)
+      → rest_by (long_form long v) word items ≡ None
   long_is_no_value long None word items = refl
   long_is_no_value long (Some v) word items = refl
 
   wait_tested : (l : Option (Text × Option Text)) (short : Option Text) (given : Given) (a : Arg) (i : ℕ) (word : Text) (ws : List Text) (items : Items) (rest : Rest)
       → long_of word ≡ l → short_of word ≡ short → IsWord word → Behind ws items rest → IsKnown a
-      → empty (turned (wait_at given a i) word ws) ≡ value_next args (Some a) given i (rest_by (form_by l short) word items)
+      → empty (turned (wait_at given a i) word ws)
+      ≡ value_next args (Some a) given i (rest_by (form_by l short) word items)
   unfolding walked
-  wait_tested (Some (long, v)) short given a i word ws items rest lw sw is behind known = rw (is.not_dashes, lw, rule_by_long long, long_is_no_value long v word items) (wait_long (by_long args long) v given a i word ws known)
-  wait_tested None (Some flags) given a i word ws items rest lw sw is behind known = rw (is.not_dashes, lw, sw, bundle_fails flags (is.flagged flags sw).0 _ (is.flagged flags sw).1) refl
+  wait_tested (Some (long, v)) short given a i word ws items rest lw sw is behind known =
+      rw (is.not_dashes, lw, rule_by_long long, long_is_no_value long v word items) (wait_long (by_long args long) v given a i word ws known)
+  wait_tested None (Some flags) given a i word ws items rest lw sw is behind known =
+      rw (is.not_dashes, lw, sw, bundle_fails flags (is.flagged flags sw).0 _ (is.flagged flags sw).1) refl
   wait_tested None None given a i word ws items rest lw sw is behind known =
       rw (is.not_dashes, lw, sw, value_here args (Some a) word items given i) (ap empty (wait_plain given a i word ws known) ∙ behind.at_idle given (Some (a, word)) i known)
 
@@ -376,72 +294,103 @@ module _ (name : Text) (args : List Arg) (different : are_different args ≡ tru
             ∙ wait_tested (long_of w) (short_of w) given a i w ws (items_of ws) (rest_of ws) refl refl are.0 behind known;
       }
 
-  -- the words after a command pass exactly where they say items that it takes
-  pub level_reads : (ws : List Text) → AreWords ws → empty (level_fault shape [] nothing_held ws false []) ≡ all_items (λ is. take_items args is [] 1) (items_of ws)
+  -- the words after a command pass exactly if they say items that it accepts
+  pub level_reads : (ws : List Text) → AreWords ws
+      → empty (level_fault shape [] nothing_held ws false []) ≡ all_items (λ is. take_items args is [] 1) (items_of ws)
   level_reads ws are = ap empty (starts ws) ∙ (are_read ws are).at_idle [] None 1 tt
 
   -- ---- the rows that the words leave
 
-  finishes : (given : Given) (p : Pending) → IsKnownPending p → settle_of given p ≡ true → finished rules (held_with given (pend p)) ≡ rows_for (after given p)
+  finishes : (given : Given) (p : Pending) → IsKnownPending p → settle_of given p ≡ true
+      → finished rules (held_with given (pend p)) ≡ rows_for (after given p)
   finishes given p known ok = rows_finished args _ ∙ settled_are given p known ok
 
   abbrev left : Walk → List Text → List Row
   left w ws = finished rules (fold (walked rules []) w ws).held
 
   record Leaves (ws : List Text) (items : Items) (rest : Rest) : Type 0 where
-    at_idle : (given : Given) (p : Pending) (i : ℕ) → IsKnownPending p → (is : List Item) → items ≡ Some is → (settle_of given p && take_items args is (after given p) i) ≡ true
+    at_idle : (given : Given) (p : Pending) (i : ℕ) → IsKnownPending p → (is : List Item) → items ≡ Some is
+        → (settle_of given p && take_items args is (after given p) i) ≡ true
         → left (walk_at given (pend p) idle i) ws ≡ rows_for (given_after args is (after given p) i)
-    at_wait : (given : Given) (a : Arg) (i : ℕ) → IsKnown a → (r : Text × List Item) → rest ≡ Some r → then_use (Some a) r.0 given (λ g. take_items args r.1 g i) ≡ true
+    at_wait : (given : Given) (a : Arg) (i : ℕ) → IsKnown a → (r : Text × List Item) → rest ≡ Some r
+        → then_use (Some a) r.0 given (λ g. take_items args r.1 g i) ≡ true
         → left (wait_at given a i) ws ≡ rows_for (given_after args r.1 (given ++ (a.id, r.0) ∷ []) i)
 
-  walked_joined : (a : Arg) (long v word : Text) (given : Given) (p : Pending) (i : ℕ) → long_of word ≡ Some (long, Some v) → IsWord word → by_long args long ≡ Some a → IsKnownPending p → settle_of given p ≡ true → passes a v (after given p) ≡ true
+  walked_joined : (a : Arg) (long v word : Text) (given : Given) (p : Pending) (i : ℕ)
+      → long_of word ≡ Some (long, Some v) → IsWord word → by_long args long ≡ Some a → IsKnownPending p
+      → settle_of given p ≡ true → passes a v (after given p) ≡ true
       → walked rules [] (walk_at given (pend p) idle i) word ≡ walk_at (after given p ++ (a.id, v) ∷ []) None idle i
   unfolding walked
-  walked_joined a long v word given p i lw is o known ok fine = rw (is.not_dashes, lw, rule_by_long long, o, settled_are given p known ok, used_rows a v (after given p) (not_given a v (after given p) fine)) refl
+  walked_joined a long v word given p i lw is o known ok fine =
+      rw (is.not_dashes, lw, rule_by_long long, o, settled_are given p known ok, used_rows a v (after given p) (not_given a v (after given p) fine)) refl
 
-  walked_alone : (a : Arg) (long word : Text) (given : Given) (p : Pending) (i : ℕ) → long_of word ≡ Some (long, None) → IsWord word → by_long args long ≡ Some a → IsKnownPending p → settle_of given p ≡ true
+  walked_alone : (a : Arg) (long word : Text) (given : Given) (p : Pending) (i : ℕ) → long_of word ≡ Some (long, None)
+      → IsWord word → by_long args long ≡ Some a → IsKnownPending p → settle_of given p ≡ true
       → walked rules [] (walk_at given (pend p) idle i) word ≡ wait_at (after given p) a i
   unfolding walked
-  walked_alone a long word given p i lw is o known ok = rw (is.not_dashes, lw, rule_by_long long, o, settled_are given p known ok) refl
+  walked_alone a long word given p i lw is o known ok =
+      rw (is.not_dashes, lw, rule_by_long long, o, settled_are given p known ok) refl
 
-  walked_plain : (a : Arg) (word : Text) (given : Given) (p : Pending) (i : ℕ) → long_of word ≡ None → short_of word ≡ None → IsWord word → by_place args i ≡ Some a → IsKnownPending p → settle_of given p ≡ true
-      → walked rules [] (walk_at given (pend p) idle i) word ≡ walk_at (after given p) (Some (a.id, word ∷ [])) idle (place_after i)
+  walked_plain : (a : Arg) (word : Text) (given : Given) (p : Pending) (i : ℕ) → long_of word ≡ None
+      → short_of word ≡ None → IsWord word → by_place args i ≡ Some a → IsKnownPending p → settle_of given p ≡ true
+      → walked rules [] (walk_at given (pend p) idle i) word
+      ≡ walk_at (after given p) (Some (a.id, word ∷ [])) idle (place_after i)
   unfolding walked
-  walked_plain a word given p i lw sw is o known ok = rw (is.not_dashes, lw, sw, rule_by_place i, o, and_false _, settled_are given p known ok) refl
+  walked_plain a word given p i lw sw is o known ok =
+      rw (is.not_dashes, lw, sw, rule_by_place i, o, and_false _, settled_are given p known ok) refl
 
-  walked_value : (a : Arg) (word : Text) (given : Given) (i : ℕ) → long_of word ≡ None → short_of word ≡ None → IsWord word → IsKnown a
+  walked_value : (a : Arg) (word : Text) (given : Given) (i : ℕ) → long_of word ≡ None → short_of word ≡ None
+      → IsWord word → IsKnown a
       → walked rules [] (wait_at given a i) word ≡ walk_at given (Some (a.id, word ∷ [])) idle i
   unfolding walked
   walked_value a word given i lw sw is known = rw (is.not_dashes, lw, sw, rule_named a.id, known, same_text a.id) refl
 
-  joined_leaves : (o : Option Arg) (long v word : Text) (given : Given) (p : Pending) (i : ℕ) (ws : List Text) (items : Items) (rest : Rest) (js : List Item) → by_long args long ≡ o → long_of word ≡ Some (long, Some v) → IsWord word → IsKnownPending p → Leaves ws items rest → items ≡ Some js
+  joined_leaves : (o : Option Arg) (long v word : Text) (given : Given) (p : Pending) (i : ℕ) (ws : List Text) (items : Items) (rest : Rest) (js : List Item)
+      → by_long args long ≡ o → long_of word ≡ Some (long, Some v) → IsWord word → IsKnownPending p
+      → Leaves ws items rest → items ≡ Some js
       → (settle_of given p && then_use o v (after given p) (λ g. take_items args js g i)) ≡ true
-      → left (walked rules [] (walk_at given (pend p) idle i) word) ws ≡ rows_for (given_after args js (put o v (after given p)) i)
-  joined_leaves None long v word given p i ws items rest js o lw is known behind e t = absurd (false≢true (and_both (settle_of given p) false t).1)
+      → left (walked rules [] (walk_at given (pend p) idle i) word) ws
+      ≡ rows_for (given_after args js (put o v (after given p)) i)
+  joined_leaves None long v word given p i ws items rest js o lw is known behind e t =
+      absurd (false≢true (and_both (settle_of given p) false t).1)
   joined_leaves (Some a) long v word given p i ws items rest js o lw is known behind e t =
       let (ok, uses) = and_both (settle_of given p) _ t in
       let (fine, more) = and_both (passes a v (after given p)) _ uses in
-      ap (λ w. left w ws) (walked_joined a long v word given p i lw is o known ok fine) ∙ behind.at_idle (after given p ++ (a.id, v) ∷ []) None i tt js e more
+      ap (λ w. left w ws) (walked_joined a long v word given p i lw is o known ok fine)
+      ∙ behind.at_idle (after given p ++ (a.id, v) ∷ []) None i tt js e more
 
-  alone_leaves : (o : Option Arg) (long word : Text) (given : Given) (p : Pending) (i : ℕ) (ws : List Text) (items : Items) (rest : Rest) (r : Text × List Item) → by_long args long ≡ o → long_of word ≡ Some (long, None) → IsWord word → IsKnownPending p → Leaves ws items rest → rest ≡ Some r
+  alone_leaves : (o : Option Arg) (long word : Text) (given : Given) (p : Pending) (i : ℕ) (ws : List Text) (items : Items) (rest : Rest) (r : Text × List Item)
+      → by_long args long ≡ o → long_of word ≡ Some (long, None) → IsWord word → IsKnownPending p → Leaves ws items rest
+      → rest ≡ Some r
       → (settle_of given p && then_use o r.0 (after given p) (λ g. take_items args r.1 g i)) ≡ true
-      → left (walked rules [] (walk_at given (pend p) idle i) word) ws ≡ rows_for (given_after args r.1 (put o r.0 (after given p)) i)
-  alone_leaves None long word given p i ws items rest r o lw is known behind e t = absurd (false≢true (and_both (settle_of given p) false t).1)
+      → left (walked rules [] (walk_at given (pend p) idle i) word) ws
+      ≡ rows_for (given_after args r.1 (put o r.0 (after given p)) i)
+  alone_leaves None long word given p i ws items rest r o lw is known behind e t =
+      absurd (false≢true (and_both (settle_of given p) false t).1)
   alone_leaves (Some a) long word given p i ws items rest r o lw is known behind e t =
       let (ok, uses) = and_both (settle_of given p) _ t in
-      ap (λ w. left w ws) (walked_alone a long word given p i lw is o known ok) ∙ behind.at_wait (after given p) a i (known_long long a o) r e uses
+      ap (λ w. left w ws) (walked_alone a long word given p i lw is o known ok)
+      ∙ behind.at_wait (after given p) a i (known_long long a o) r e uses
 
-  plain_leaves : (o : Option Arg) (word : Text) (given : Given) (p : Pending) (i : ℕ) (ws : List Text) (items : Items) (rest : Rest) (js : List Item) → by_place args i ≡ o → long_of word ≡ None → short_of word ≡ None → IsWord word → IsKnownPending p → Leaves ws items rest → items ≡ Some js
+  plain_leaves : (o : Option Arg) (word : Text) (given : Given) (p : Pending) (i : ℕ) (ws : List Text) (items : Items) (rest : Rest) (js : List Item)
+      → by_place args i ≡ o → long_of word ≡ None → short_of word ≡ None → IsWord word → IsKnownPending p
+      → Leaves ws items rest → items ≡ Some js
       → (settle_of given p && then_use o word (after given p) (λ g. take_items args js g (place_after i))) ≡ true
-      → left (walked rules [] (walk_at given (pend p) idle i) word) ws ≡ rows_for (given_after args js (put o word (after given p)) (place_after i))
-  plain_leaves None word given p i ws items rest js o lw sw is known behind e t = absurd (false≢true (and_both (settle_of given p) false t).1)
+      → left (walked rules [] (walk_at given (pend p) idle i) word) ws
+      ≡ rows_for (given_after args js (put o word (after given p)) (place_after i))
+  plain_leaves None word given p i ws items rest js o lw sw is known behind e t =
+      absurd (false≢true (and_both (settle_of given p) false t).1)
   plain_leaves (Some a) word given p i ws items rest js o lw sw is known behind e t =
       let (ok, uses) = and_both (settle_of given p) _ t in
-      ap (λ w. left w ws) (walked_plain a word given p i lw sw is o known ok) ∙ behind.at_idle (after given p) (Some (a, word)) (place_after i) (known_place i a o) js e uses
+      ap (λ w. left w ws) (walked_plain a word given p i lw sw is o known ok)
+      ∙ behind.at_idle (after given p) (Some (a, word)) (place_after i) (known_place i a o) js e uses
 
-  idle_leaves : (l : Option (Text × Option Text)) (short : Option Text) (word : Text) (given : Given) (p : Pending) (i : ℕ) (ws : List Text) (items : Items) (rest : Rest) (is : List Item) → long_of word ≡ l → short_of word ≡ short → IsWord word → IsKnownPending p → Leaves ws items rest
-      → items_by (form_by l short) word items rest ≡ Some is → (settle_of given p && take_items args is (after given p) i) ≡ true
-      → left (walked rules [] (walk_at given (pend p) idle i) word) ws ≡ rows_for (given_after args is (after given p) i)
+  idle_leaves : (l : Option (Text × Option Text)) (short : Option Text) (word : Text) (given : Given) (p : Pending) (i : ℕ) (ws : List Text) (items : Items) (rest : Rest) (is : List Item)
+      → long_of word ≡ l → short_of word ≡ short → IsWord word → IsKnownPending p → Leaves ws items rest
+      → items_by (form_by l short) word items rest ≡ Some is
+      → (settle_of given p && take_items args is (after given p) i) ≡ true
+      → left (walked rules [] (walk_at given (pend p) idle i) word) ws
+      ≡ rows_for (given_after args is (after given p) i)
   idle_leaves (Some (long, Some v)) short word given p i ws items rest is lw sw text known behind e =
       from_more (option long v) items is
       (λ is. (settle_of given p && take_items args is (after given p) i) ≡ true → left (walked rules [] (walk_at given (pend p) idle i) word) ws ≡ rows_for (given_after args is (after given p) i)) e
@@ -456,15 +405,20 @@ module _ (name : Text) (args : List Arg) (different : are_different args ≡ tru
       (λ is. (settle_of given p && take_items args is (after given p) i) ≡ true → left (walked rules [] (walk_at given (pend p) idle i) word) ws ≡ rows_for (given_after args is (after given p) i)) e
       (λ js f. plain_leaves (by_place args i) word given p i ws items rest js refl lw sw text known behind f)
 
-  wait_leaves : (l : Option (Text × Option Text)) (short : Option Text) (word : Text) (given : Given) (a : Arg) (i : ℕ) (ws : List Text) (items : Items) (rest : Rest) (r : Text × List Item) → long_of word ≡ l → short_of word ≡ short → IsWord word → IsKnown a → Leaves ws items rest
-      → rest_by (form_by l short) word items ≡ Some r → then_use (Some a) r.0 given (λ g. take_items args r.1 g i) ≡ true
-      → left (walked rules [] (wait_at given a i) word) ws ≡ rows_for (given_after args r.1 (given ++ (a.id, r.0) ∷ []) i)
+  wait_leaves : (l : Option (Text × Option Text)) (short : Option Text) (word : Text) (given : Given) (a : Arg) (i : ℕ) (ws : List Text) (items : Items) (rest : Rest) (r : Text × List Item)
+      → long_of word ≡ l → short_of word ≡ short → IsWord word → IsKnown a → Leaves ws items rest
+      → rest_by (form_by l short) word items ≡ Some r
+      → then_use (Some a) r.0 given (λ g. take_items args r.1 g i) ≡ true
+      → left (walked rules [] (wait_at given a i) word) ws
+      ≡ rows_for (given_after args r.1 (given ++ (a.id, r.0) ∷ []) i)
   wait_leaves (Some (long, Some v)) short word given a i ws items rest r lw sw text known behind e = cc
   wait_leaves (Some (long, None)) short word given a i ws items rest r lw sw text known behind e = cc
   wait_leaves None (Some flags) word given a i ws items rest r lw sw text known behind e = cc
   wait_leaves None None word given a i ws None rest r lw sw text known behind e = cc
   wait_leaves None None word given a i ws (Some js) rest r lw sw text known behind e =
-      subst (λ r. then_use (Some a) r.0 given (λ g. take_items args r.1 g i) ≡ true → left (walked rules [] (wait_at given a i) word) ws ≡ rows_for (given_after args r.1 (given ++ (a.id, r.0) ∷ []) i)) (same_Some (word, js) r e)
+      subst
+      (λ r. then_use (Some a) r.0 given (λ g. take_items args r.1 g i) ≡ true → left (walked rules [] (wait_at given a i) word) ws ≡ rows_for (given_after args r.1 (given ++ (a.id, r.0) ∷ []) i))
+      (same_Some (word, js) r e)
       (λ t. ap (λ w. left w ws) (walked_value a word given i lw sw text known) ∙ behind.at_idle given (Some (a, word)) i known js refl t)
 
   all_leave : (ws : List Text) → AreWords ws → Leaves ws (items_of ws) (rest_of ws)
@@ -483,5 +437,6 @@ module _ (name : Text) (args : List Arg) (different : are_different args ≡ tru
       }
 
   -- the rows after words that pass are those of their items
-  pub level_leaves : (ws : List Text) (is : List Item) → AreWords ws → items_of ws ≡ Some is → take_items args is [] 1 ≡ true → rows_after rules [] ws ≡ rows_for (given_after args is [] 1)
+  pub level_leaves : (ws : List Text) (is : List Item) → AreWords ws → items_of ws ≡ Some is
+      → take_items args is [] 1 ≡ true → rows_after rules [] ws ≡ rows_for (given_after args is [] 1)
   level_leaves ws is are e t = (all_leave ws are).at_idle [] None 1 tt is e t

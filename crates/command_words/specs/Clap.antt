@@ -1,4 +1,4 @@
--- The command of clap that takes the words of a table.
+-- The command of clap that accepts the arguments which a table allows.
 use Rattle.std.specs.Prelude.{ℕ, ◌+◌, Bool, true, false, List, [], ◌∷◌, ◌++◌, map, Option, Some, None, nat_lt}
 use Rattle.clap.specs.Walk.{Rule, Text}
 use Rattle.clap.specs.Simple.{App, Shape, new_rule, new_shape, on_top}
@@ -30,7 +30,7 @@ option_rule s = record (new_rule s.name) {
   parser = parser_for s.limit;
 }
 
--- the plain words from the place i on
+-- the positional arguments from the position i on
 abbrev pub plain_rules : ℕ → ℕ → List Slot → List Rule
 plain_rules least i [] = []
 plain_rules least i (s ∷ slots) = plain_rule (nat_lt i least) s ∷ plain_rules least (i + 1) slots

@@ -3,3 +3,4 @@ pub mod Words
 pub mod Taken
 pub mod Rows
 pub mod Clap
+pub mod Told

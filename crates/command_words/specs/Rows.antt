@@ -15,7 +15,7 @@ use Rattle.command_words.specs.Words.{Item, plain, option, names_in}
 abbrev pub has_name : Text → List (Text × Text) → Bool
 has_name name given = is_among name (names_in given)
 
--- the values by their names, in the order of the words: each plain word has the next slot's name
+-- the values by their names, in the order of the arguments: each positional argument has the name of the next slot
 abbrev pub values_in : List Slot → List Item → List (Text × Text)
 values_in slots [] = []
 values_in [] (plain w ∷ is) = values_in [] is
@@ -60,7 +60,7 @@ pub record HoldsRows (g : Given) (u : Usage) (rows : List Row) : Type 0 where
   pub plains : map (λ w. w.now) g.plains.items ≡ texts_of u.plains rows
   pub options : map pair_of g.options.items ≡ pairs_of u.options rows
 
--- where the matches are of a command of the table, it is given with their values
+-- if the matches are of a command of the table, it is given with their values
 abbrev pub GivesUse : List Usage → ArgMatches → Option Given → Type 0
 GivesUse table m g = (u : Usage) (rows : List Row) → usage_named table u.name ≡ Some u
     → subcommand_rows_of m ≡ Some (u.name, rows)

@@ -1,4 +1,4 @@
--- How a command is used: the words that it takes, as a row of a table.
+-- How a command is used: the arguments that it accepts, as a row of a table.
 use Rattle.std.specs.Prelude.{ℕ, Bool, true, false, ◌&&◌, ◌==◌, not, List, [], ◌∷◌, ◌++◌, map, length}
 use Rattle.std.specs.Prelude.{nat_le, nat_lt}
 use Rattle.std.specs.List.{list_all, list_any}
@@ -16,14 +16,14 @@ pub record Slot : Type 0 where
   pub name : Text
   pub limit : Limit
 
--- a command: its name, its plain words, of which the first `least` must be there, and its options
+-- a command: its name, its positional arguments, of which the first `least` must be there, and its options
 pub record Usage : Type 0 where
   pub name : Text
   pub plains : List Slot
   pub least : ℕ
   pub options : List Slot
 
--- the same, of the rows of a program, whose texts for messages say nothing of what is taken
+-- the same, of the rows of a program, whose texts for messages do not matter for what is accepted
 abbrev pub slot_of : Argument → Slot
 slot_of a = record { name = a.name.now; limit = a.limit }
 
@@ -57,18 +57,18 @@ names_of slots = map (λ s. s.name) slots
 abbrev pub commands_of : List Usage → List Text
 commands_of table = map (λ u. u.name) table
 
--- a plain word, as any value that is a word of its own, is not empty and does not begin with `-` (45)
+-- a positional argument, like any value that is an argument of its own, is not empty and does not begin with `-` (45)
 abbrev pub is_plain : Text → Bool
 is_plain [] = false
 is_plain (x ∷ xs) = not (x == 45)
 
--- The names of the plain words and of the options differ, each plain word that must be there has a name, and there are
--- at most 1,000.
+-- The names of the positional arguments and of the options differ, each positional argument that must be there has a
+-- name, and there are at most 1,000.
 abbrev pub is_sound : Usage → Bool
 is_sound u = different (names_of u.plains ++ names_of u.options)
     && (nat_le u.least (length u.plains) && nat_le (length u.plains) 1000)
 
--- There is a command, each is sound, and their names are plain words that differ.
+-- There is a command, each is sound, and their names differ, are not empty and do not begin with `-`.
 abbrev pub is_sound_table : List Usage → Bool
 is_sound_table table = (nat_lt 0 (length table) && list_all is_sound table)
     && (list_all is_plain (commands_of table) && different (commands_of table))

@@ -1,4 +1,4 @@
-//! The command of `clap` that takes the words of a table.
+//! The command of `clap` that accepts the arguments which a table allows.
 ghost use Rattle.std.specs.Prelude.{◌≡◌, IfOk, false, map, ◌<◌, length};
 ghost use Rattle.clap.specs.Walk.{rule_of};
 ghost use Rattle.clap.specs.Simple.{app_of, shape_of};

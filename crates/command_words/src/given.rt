@@ -1,4 +1,4 @@
-//! What words give a command: its plain words and its options.
+//! What is given to a command: its positional arguments and its options.
 ghost use Rattle.std.specs.Prelude.{◌≡◌, IfOk, map, option_map};
 ghost use Rattle.clap.specs.Walk.{first_of};
 ghost use Rattle.command_words.specs.Rows.{HoldsRows, pairs_of, rows_in, texts_of};
@@ -24,7 +24,7 @@ pub struct GivenOption<'a> {
 pub struct Given<'a> {
     /// The name of the command.
     pub command: &'a str,
-    /// The plain words, in their order.
+    /// The positional arguments, in their order.
     pub plains: Vec<&'a str>,
     /// The options that were given, in the order of the table.
     pub options: Vec<GivenOption<'a>>,
@@ -52,7 +52,7 @@ fn text<'a>(matches: &ArgMatches<'a>, name: &str) -> Option<&'a str>
     matches.get_str(name)
 }
 
-/// The values of some arguments, up to the first that has none: the plain words of a use.
+/// The values of some arguments, up to the first that has none: the positional arguments of a use.
 #[tactic(auto, using(std::proofs::lemmas::List::drop_more))]
 fn plains<'a>(
     alloc: Global,

@@ -1,4 +1,4 @@
-//! Reading the words of a command line by a table of commands, with `clap`.
+//! Reading the arguments of a command line by a table of commands, with `clap`.
 #![tactic(auto)]
 
 mod command;
@@ -7,8 +7,10 @@ mod look;
 mod numbers;
 mod reading;
 mod table;
+mod taken;
 
 pub use given::{Given, GivenOption};
 pub use numbers::number;
 pub use reading::{WordsError, read};
 pub use table::{Argument, CommandRow, Limit, Program};
+pub use taken::are_taken;

@@ -1,4 +1,4 @@
-//! The first look at the words, before `clap` reads them.
+//! The first look at the arguments, before `clap` reads them.
 ghost use Rattle.std.specs.Prelude.{◌≡◌, map, drop, string_bytes};
 ghost use Rattle.std.specs.List.{list_any};
 ghost use Rattle.command_words.specs.Words.{has_empty_value, is_empty_option, is_refused_first};
@@ -16,7 +16,7 @@ fn has_empty_value(text: &[u8]) -> bool
     false
 }
 
-/// Whether the word begins with `--` and its first `=` is its last byte.
+/// Whether the argument begins with `--` and its first `=` is its last byte.
 fn is_empty_option(word: &str) -> bool
     ensures { result ≡ is_empty_option word.now }
 {
@@ -26,14 +26,14 @@ fn is_empty_option(word: &str) -> bool
     }
 }
 
-/// Whether the word is empty, `-`, `--`, or an option with nothing after its `=`.
+/// Whether the argument is empty, `-`, `--`, or an option with nothing after its `=`.
 fn is_refused_word(word: &str) -> bool
     ensures { result ≡ is_refused_first word.now }
 {
     word.is_empty() || word == "-" || word == "--" || is_empty_option(word)
 }
 
-/// Whether a word after the first is refused before `clap` reads.
+/// Whether an argument after the first is refused before `clap` reads.
 pub(crate) fn has_refused_word(words: &[String]) -> bool
     ensures { result ≡ list_any (λ w. is_refused_first (string_bytes w)) (drop 1 words.now) }
 {

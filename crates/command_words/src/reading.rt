@@ -1,4 +1,4 @@
-//! Reading the words by a table.
+//! Reading the arguments by a table.
 ghost use Rattle.std.specs.Prelude.{◌≡◌, ◌≢◌, ◌<◌, length, IfOk, IfErr, true, [], map, option_map, string_bytes};
 ghost use Rattle.clap.specs.Faults.{fault_of};
 ghost use Rattle.clap.specs.Simple.{HasMatchesOf};
@@ -16,14 +16,14 @@ use clap::error::ErrorKind;
 use clap::{ArgMatches, Error};
 use std::alloc::{AllocError, Global};
 
-/// Why words are not taken.
+/// Why arguments are not accepted.
 #[derive(Debug, Drop)]
 pub enum WordsError {
     /// The system gave no memory.
     NoMemory,
-    /// A word after the first is empty, `-`, `--`, or an option with nothing after its `=`.
+    /// An argument after the first is empty, `-`, `--`, or an option with nothing after its `=`.
     Refused,
-    /// The words are refused by `clap`, for another cause: its text says which, and how the command is used.
+    /// The arguments are refused by `clap`, for another cause: its text says which, and how the command is used.
     ByCommand(String),
 }
 
@@ -44,7 +44,7 @@ fn matches_of<'a>(
 
 /// The row of this name.
 #[tactic(auto, using(std::proofs::lemmas::List::drop_more))]
-fn row_named<'a>(rows: &'a [CommandRow<'a>], name: &str) -> Option<&'a CommandRow<'a>>
+pub(crate) fn row_named<'a>(rows: &'a [CommandRow<'a>], name: &str) -> Option<&'a CommandRow<'a>>
     ensures { option_map (λ row. usage_of row.now) result ≡ usage_named (map usage_of rows.now) name.now }
 {
     for row in rows {
@@ -72,17 +72,18 @@ fn given_of<'a>(
     Ok(Some(given_by(alloc, row, inner)?))
 }
 
-/// Reads the words of a command line: if they are a use of a command of the table, what they give it.
+/// Reads the arguments of a command line: if they are a use of a command of the table, what they give it.
 ///
-/// The first word is the name of the program and is not looked at. The next is the name of a command. Each further item
-/// is an option of that command, `--name value` or `--name=value`, or a plain word. The value after `=` is any text
-/// that is not empty; every other word that is a value or a plain word is not empty and does not begin with `-`.
+/// The first argument is the name of the program and is not looked at. The next is the name of a command. Each further
+/// item is an option of that command, `--name value` or `--name=value`, or a positional argument. The value after `=`
+/// is any text that is not empty; every other value and every positional argument is not empty and does not begin with
+/// `-`.
 ///
 /// # Errors
 ///
-/// `Refused` exactly if a word after the first is empty, `-`, `--`, or an option with nothing after its `=`.
-/// `ByCommand` if there is no such word and the words are no use of a command of the table. `NoMemory` if the system
-/// gave no memory.
+/// `Refused` exactly if an argument after the first is empty, `-`, `--`, or an option with nothing after its `=`.
+/// `ByCommand` if there is no such argument and the arguments are no use of a command of the table. `NoMemory` if the
+/// system gave no memory.
 pub fn read<'a>(
     alloc: Global,
     program: Program<'a>,

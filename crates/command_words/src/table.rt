@@ -9,7 +9,7 @@ pub enum Limit {
     Text,
 }
 
-/// A plain word or an option of a command.
+/// A positional argument or an option of a command.
 #[derive(Clone, Copy, Debug)]
 pub struct Argument<'a> {
     /// The name: different from those of the others of its command, and for an option the text after `--`.
@@ -25,22 +25,22 @@ pub struct Argument<'a> {
 pub struct CommandRow<'a> {
     /// The name, as it is written after that of the program.
     pub name: &'a str,
-    /// The text after `Usage: ` in messages: how the command is used, and what its words and options are.
+    /// The text after `Usage: ` in messages: how the command is used, and what its arguments and options are.
     pub usage: &'a str,
-    /// The plain words, in their order.
+    /// The positional arguments, in their order.
     pub plains: &'a [Argument<'a>],
-    /// How many of the plain words must be there.
+    /// How many of the positional arguments must be there.
     pub least: usize,
     /// The options: each may stand once, anywhere after the name of the command.
     pub options: &'a [Argument<'a>],
 }
 
-/// A program: its name, the text after `Usage: ` in messages of words without a command, and its commands.
+/// A program: its name, the text after `Usage: ` in messages about arguments that name no command, and its commands.
 #[derive(Clone, Copy, Debug)]
 pub struct Program<'a> {
     /// The name, as messages call it.
     pub name: &'a str,
-    /// The text after `Usage: ` in messages of words that name no command.
+    /// The text after `Usage: ` in messages about arguments that name no command.
     pub usage: &'a str,
     /// The commands.
     pub commands: &'a [CommandRow<'a>],

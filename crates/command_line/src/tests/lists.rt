@@ -1,6 +1,7 @@
-//! Lists of words with what becomes of them: taken, refused by the command, or refused at the first look.
+//! Lists of arguments with what becomes of them: accepted (`taken`), refused by the command, or refused at the first
+//! look.
 
-/// Words that are taken.
+/// Arguments that are accepted.
 pub(crate) const TAKEN: &str = concat!(
     "taken  locus|run|f\n",
     "taken  anything|run|f\n",
@@ -37,7 +38,7 @@ pub(crate) const TAKEN: &str = concat!(
     "taken  locus|run|f|--workers|0000000000000000000000000000005\n",
 );
 
-/// Words that the command refuses.
+/// Arguments that the command refuses.
 pub(crate) const BY_COMMAND: &str = concat!(
     "command  locus\n",
     "command  locus|run\n",
@@ -98,7 +99,7 @@ pub(crate) const BY_COMMAND: &str = concat!(
     "command  locus|--workers=3|run|f\n",
 );
 
-/// Words that are refused at the first look.
+/// Arguments that are refused at the first look.
 pub(crate) const AT_FIRST_LOOK: &str = concat!(
     "refused  locus|\n",
     "refused  locus|-\n",

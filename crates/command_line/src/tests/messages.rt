@@ -1,10 +1,10 @@
-//! What is printed of words that `clap` refuses.
+//! What is printed if `clap` refuses the arguments.
 use super::words_of;
 use crate::{Commands, WordsError, read};
 use std::alloc::{AllocError, Global};
 use std::test::Fail;
 
-/// The text that is printed of the words of a line.
+/// The text that is printed for the arguments of a line.
 fn message(alloc: Global, commands: Commands, line: &str) -> Result<String, AllocError> {
     let words = words_of(alloc, line)?;
     match read(alloc, commands, words.as_slice()) {

@@ -1,3 +1,6 @@
+-- There are five ways out. The first look refuses exactly its arguments; `clap` refuses exactly those that are no use
+-- of a command of the table, unless memory is refused; and matches that `clap` found give a command of the table with
+-- its values.
 use Rattle.std.proofs.Common.{◌≢◌, ◌∙◌, sym, rules}
 use Rattle.clap.specs.Values.{kind_of}
 use Rattle.clap.specs.declared.error.kind.ErrorKind.TheVariants.{OutOfMemory}
