@@ -2,9 +2,9 @@
 
 use crate::locus;
 use crate::tests::cases::{
-    CHANGED_DIGEST, CONICS, CUBICS, CUBIC_SUM, CURVE_SUMS, DIGEST, DIGEST_OF_VERSION_1,
-    INTEGRAL_SUMS, LINE_SUMS, MARKED, NO_INVERSES, PSI_SUMS, QUARTICS, QUARTIC_SUM,
-    REFUSALS, REFUSED_WORDS, SHARES,
+    CHANGED_DIGEST, CONICS, CUBIC_SUM, CUBICS, CURVE_SUMS, DIGEST, DIGEST_OF_VERSION_1,
+    INTEGRAL_SUMS, LINE_SUMS, MARKED, NO_INVERSES, PSI_SUMS, QUARTIC_SUM, QUARTICS, REFUSALS,
+    REFUSED_FIRST, REFUSED_WORDS, SHARES,
 };
 use locus_io::{MemoryFiles, MemorySink, OpenGate, ScriptedStopper};
 use std::alloc::Global;
@@ -151,7 +151,11 @@ fn checkpoint(alloc: Global, version: u8, first: u64, digest: &str) -> Result<St
 fn lines(rt: HostRuntime) -> Result<(), Fail> {
     let alloc = rt.alloc();
     for (top, rest, wanted) in LINE_SUMS {
-        assert_eq!(rt; sum(&rt, alloc, 1, top, rest)?.as_str(), wanted, "{top}{rest}");
+        assert_eq!(rt;
+            sum(&rt, alloc, 1, top, rest)?.as_str(),
+            wanted,
+            "{top}{rest}"
+        );
     }
     Ok(())
 }
@@ -170,7 +174,11 @@ fn conics_and_cubics(rt: HostRuntime) -> Result<(), Fail> {
 fn several_integrals_and_psi_classes(rt: HostRuntime) -> Result<(), Fail> {
     let alloc = rt.alloc();
     for (top, rest, wanted) in INTEGRAL_SUMS {
-        assert_eq!(rt; sum(&rt, alloc, 2, top, rest)?.as_str(), wanted, "{top}{rest}");
+        assert_eq!(rt;
+            sum(&rt, alloc, 2, top, rest)?.as_str(),
+            wanted,
+            "{top}{rest}"
+        );
     }
     for (shape, classes, wanted) in PSI_SUMS {
         let rest = format!(in alloc; "{MARKED}{classes}")?;
@@ -187,7 +195,11 @@ fn several_integrals_and_psi_classes(rt: HostRuntime) -> Result<(), Fail> {
 fn the_least_tree_without_an_inverse_is_named(rt: HostRuntime) -> Result<(), Fail> {
     let alloc = rt.alloc();
     for (top, rest, wanted) in NO_INVERSES {
-        assert_eq!(rt; sum(&rt, alloc, 1, top, rest)?.as_str(), wanted, "{top}{rest}");
+        assert_eq!(rt;
+            sum(&rt, alloc, 1, top, rest)?.as_str(),
+            wanted,
+            "{top}{rest}"
+        );
     }
     Ok(())
 }
@@ -220,8 +232,10 @@ fn words_of_no_command_are_refused(rt: HostRuntime) -> Result<(), Fail> {
         assert_eq!(rt; found.out.as_str(), "");
         assert!(rt; found.err.as_str().starts_with("error: "), "{}", found.err);
     }
-    let found = run(&rt, alloc, &["locus", "run", ""], CONICS)?;
-    assert_eq!(rt; found.as_str(), "2 |words refused\n");
+    for words in REFUSED_FIRST {
+        let found = run(&rt, alloc, words, CONICS)?;
+        assert_eq!(rt; found.as_str(), "2 |words refused\n");
+    }
     let found = run(&rt, alloc, &["", "run", "f"], CONICS)?;
     let wanted = format!(in alloc; "0 {CONIC_SUM}|")?;
     assert_eq!(rt; found.as_str(), wanted.as_str());
@@ -247,7 +261,11 @@ fn a_file_that_fails_is_a_read_fault(rt: HostRuntime) -> Result<(), Fail> {
     }
     for command in ["run", "resume"] {
         let found = run(&rt, alloc, &["locus", command, "g"], CONICS)?;
-        assert_eq!(rt; found.as_str(), "6 |read fault\n", "a file that is not there");
+        assert_eq!(rt;
+            found.as_str(),
+            "6 |read fault\n",
+            "a file that is not there"
+        );
     }
     Ok(())
 }
@@ -374,8 +392,22 @@ fn a_chain_of_budgets_ends_in_the_text_of_one_run(rt: HostRuntime) -> Result<(),
     let alloc = rt.alloc();
     let mut text = String::from_str(alloc, CUBICS)?;
     let mut command = "run";
-    for (workers, next) in [("1", 1000), ("7", 2000), ("2", 3000), ("64", 4000), ("3", 5000)] {
-        let words = ["locus", command, "f", "--workers", workers, "--budget", "1000"];
+    for (workers, next) in [
+        ("1", 1000),
+        ("7", 2000),
+        ("2", 3000),
+        ("64", 4000),
+        ("3", 5000),
+    ] {
+        let words = [
+            "locus",
+            command,
+            "f",
+            "--workers",
+            workers,
+            "--budget",
+            "1000",
+        ];
         let found = outcome(&rt, alloc, &words, &sound(text.as_str()))?;
         assert_eq!(rt; (found.status, found.err.as_str()), (5, ""), "next {next}");
         let line = format!(in alloc; "\nnext {next}\n")?;
@@ -393,11 +425,10 @@ fn a_chain_of_budgets_ends_in_the_text_of_one_run(rt: HostRuntime) -> Result<(),
 #[test]
 fn a_stop_file_pauses_after_a_round(rt: HostRuntime) -> Result<(), Fail> {
     let alloc = rt.alloc();
-    let cases: [(&[bool], &str, u64); 2] = [(&[true], "\nnext 65536\n", 1), (
-        &[false, true],
-        "\nnext 131072\n",
-        2,
-    )];
+    let cases: [(&[bool], &str, u64); 2] = [
+        (&[true], "\nnext 65536\n", 1),
+        (&[false, true], "\nnext 131072\n", 2),
+    ];
     for (answers, wanted, asked) in cases {
         let mut outside = sound(QUARTICS);
         outside.answers = answers;

@@ -93,7 +93,8 @@ pub const CUBIC_SUM: &str =
     "0 trees 5620\nresidue 1000000007 132021295\nresidue 1000000009 169058332\nfraction 8564575000/27\n|";
 
 /// Quartics on a quintic threefold (Candelas, de la Ossa, Green and Parkes 1991).
-pub const QUARTICS: &str = "version = 1\nrank = 4\ndegree = 4\nweights = [1, 10, 100, 1000, 10000]\n\
+pub const QUARTICS: &str =
+    "version = 1\nrank = 4\ndegree = 4\nweights = [1, 10, 100, 1000, 10000]\n\
     moduli = [1000000007, 1000000009]\nnumerator_bound = 20000000000000\ndenominator_bound = 1000\n\
     [[term]]\nclasses = [{ kind = \"hypersurface\", b = 5 }]\n";
 
@@ -282,13 +283,11 @@ pub const REFUSALS: [(u8, &str, &str, &str, &str); 9] = [
 ];
 
 /// Words that `clap` refuses with a text that begins with `error: `.
-pub const REFUSED_WORDS: [&[&str]; 19] = [
+pub const REFUSED_WORDS: [&[&str]; 16] = [
     &[],
     &["locus"],
     &["locus", "run"],
     &["locus", "run", "-f"],
-    &["locus", "run", "-"],
-    &["locus", "run", "--", "f"],
     &["locus", "walk", "f"],
     &["locus", "help"],
     &["locus", "run", "f", "f"],
@@ -296,12 +295,19 @@ pub const REFUSED_WORDS: [&[&str]; 19] = [
     &["locus", "--workers", "2", "run", "f"],
     &["locus", "run", "f", "--workers", "0"],
     &["locus", "run", "f", "--workers", "65"],
-    &["locus", "run", "f", "--workers="],
     &["locus", "run", "f", "--workers", "2", "--workers", "2"],
     &["locus", "soak", "0", "--budget", "5"],
     &["locus", "make", "-1"],
     &["locus", "make", "4294967296"],
     &["locus", "resume"],
+];
+
+/// Words that are refused at the first look, before `clap` reads them.
+pub const REFUSED_FIRST: [&[&str]; 4] = [
+    &["locus", "run", ""],
+    &["locus", "run", "-"],
+    &["locus", "run", "--", "f"],
+    &["locus", "run", "f", "--workers="],
 ];
 
 /// The problem of the lines in the projective line, whole.
