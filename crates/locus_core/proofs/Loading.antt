@@ -71,18 +71,19 @@ same_checkpoint bytes got (inr (long, longer)) =
 
 -- ---- problems
 
+-- a text that is too long is read as no problem
+too_long : (got : List ℕ) (p : ProblemView) → 1048576 < length got → reading got ≡ Ok p → ⊥
+unfolding reading
+too_long got p long e = let b = above 1048576 (length got) long in cc
+
 -- a text that is read as a problem is the file
 pub problem_read : (files : Change FilesState) (name got : List ℕ) (p : ProblemView) → Loads 1048576 files name got → reading got ≡ Ok p
     → Holds files name got
 problem_read files name got p h is = by_alike (read 1048576 files name got h)
   where
-    too_long : 1048576 < length got → reading got ≡ Ok p → ⊥
-    unfolding reading
-    too_long long e = let b = above 1048576 (length got) long in cc
-
     by_alike : Read 1048576 files name got → Holds files name got
     by_alike r =
-        ⊎_elim (λ same. subst (Holds files name) same r.file) (λ long. absurd (too_long long.1 is)) r.alike
+        ⊎_elim (λ same. subst (Holds files name) same r.file) (λ long. absurd (too_long got p long.1 is)) r.alike
 
 pub problem_refused : (files : Change FilesState) (name got : List ℕ) (error : ProblemError) → Loads 1048576 files name got → reading got ≡ Err error
     → (bytes : List ℕ) × Holds files name bytes × (reading bytes ≡ Err error)

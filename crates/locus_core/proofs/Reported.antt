@@ -1,17 +1,21 @@
 -- What is printed of an outcome is its answer: the texts of reports and checkpoints, one by one.
-use Rattle.std.proofs.Common.{◌≡◌, ℕ, List, [], ◌++◌, Option, Some, Result, Ok, Err, IfOk, refl, sym, subst, ap, ◌∙◌}
-use Rattle.problem.specs.Rules.{ProblemView}
+use Rattle.std.proofs.Common.{◌≡◌, ℕ, List, [], ◌++◌, Option, Some, None, option_map, Result, Ok, Err, IfOk, IsSome, IfSome, refl, sym, subst, ap, ◌∙◌}
+use Rattle.locus_io.specs.Causes.{Stayed}
+use Rattle.problem.specs.Rules.{ProblemView, KeepsRules}
 use Rattle.checkpoint.specs.States.{StateView}
 use Rattle.checkpoint.specs.Texts.{text_in}
 use Rattle.report.specs.Report.{IsDoneReport, done_status}
 use Rattle.report.specs.Texts.{done_text, no_inverse_text}
 use Rattle.report.specs.declared.report.Report.{Report}
 use Rattle.residue.specs.declared.errors.NoMemory.{NoMemory}
+use Rattle.rounds.specs.Outcomes.{sum_of, IsProgress, IsEarly}
+use Rattle.rounds.specs.declared.progress.Progress.{Progress}
 use Rattle.rounds.specs.declared.progress.Outcome.{Outcome}
 use Rattle.rounds.specs.declared.progress.Outcome.TheVariants.{Done, Paused, NoInverse}
 use Rattle.locus_core.specs.Begins.{Beginning, Plan, of_state}
 use Rattle.locus_core.specs.Comes.{IsAnswer, done, paused, no_inverse, state_at}
-use Rattle.locus_core.specs.Steps.{IsReportOf}
+use Rattle.locus_core.specs.Outside.{Change, Unchanged, StopperState, HasStopped}
+use Rattle.locus_core.specs.Steps.{IsReportOf, Continues}
 
 -- the report of sums, behind the heading
 done_answer : (b : Beginning) (residues : List ℕ) (status : ℕ) (text : List ℕ) → IsDoneReport b.sum.problem residues status text
@@ -61,3 +65,29 @@ headed b (Done residues) status text whole r is = subst (IsAnswer b (Done residu
 headed b (Paused next residues) status text whole r is = absurd r
 headed b (NoInverse number modulus) status text whole r is =
     subst (IsAnswer b (NoInverse number modulus) status) (sym is) (no_inverse_answer b number modulus status text r.0 r.1)
+
+-- ---- rounds
+
+-- a stopper whose count and last name stayed is unchanged
+pub stayed : (stopper : Change StopperState) → Stayed stopper.before.stops stopper.after.stops stopper.before.last_stop stopper.after.last_stop
+    → Unchanged stopper
+stayed stopper s = λ i. record { stops = s.count i; last_stop = s.name i }
+
+-- what holds of the name that is given holds of its text
+pub stop_named : {A : Type 0} (text : A → List ℕ) (o : Option A) (P : List ℕ → Type 0) → IsSome o × IfSome o (λ name. P (text name))
+    → IsSome (option_map text o) × IfSome (option_map text o) P
+stop_named text None P h = (h.0, tt)
+stop_named text (Some name) P h = (refl, h.1)
+
+-- what a call that runs rounds says, of a sum that is begun
+pub goes_on : (state : StateView) (plan : Plan) (stopper : Change StopperState) (progress : Progress) (status : ℕ) (text : List ℕ)
+    → KeepsRules state.problem → IsProgress (sum_of state) plan.budget plan.workers progress
+    → (IsEarly (sum_of state) plan.budget progress.outcome → IsSome plan.stop_file × IfSome plan.stop_file (λ name. HasStopped stopper name))
+    → (¬ IsEarly (sum_of state) plan.budget progress.outcome
+    → Stayed stopper.before.stops stopper.after.stops stopper.before.last_stop stopper.after.last_stop)
+    → IsAnswer (of_state state plan) progress.outcome status text → Continues (of_state state plan) stopper progress.shares status text
+goes_on state plan stopper progress status text rules is stopped kept answer = record {
+  outcome = progress.outcome;
+  sums = record { rules = rules; progress = is; stopped = stopped; kept = λ late. stayed stopper (kept late) };
+  answer = answer;
+}

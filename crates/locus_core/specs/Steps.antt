@@ -18,6 +18,7 @@ use Rattle.locus_core.specs.Outside.{Change, Unchanged, FilesState, StopperState
 use Rattle.locus_core.specs.Begins.{Beginning}
 use Rattle.locus_core.specs.Comes.{Sums, IsAnswer, Comes, file_of_request, MayHaveStopped}
 use Rattle.locus_core.specs.declared.work.Printable.{Printable}
+use Rattle.residue.specs.declared.errors.NoMemory.{NoMemory}
 use Rattle.locus_core.specs.declared.work.Refusal.{Refusal}
 use Rattle.locus_core.specs.declared.work.Refusal.TheVariants as refusal
 
@@ -47,14 +48,6 @@ IsReportOf p (Done residues) status text = IsDoneReport p residues status text
 IsReportOf p (Paused next residues) status text = ⊥
 IsReportOf p (NoInverse number modulus) status text = (status ≡ 4) × (text ≡ no_inverse_text p number modulus)
 
--- the request is one of the four that are built
-abbrev pub IsBuilt : Request → Type 0
-IsBuilt (run s) = Unit {0}
-IsBuilt (resume s) = Unit {0}
-IsBuilt (make number) = Unit {0}
-IsBuilt (soak number workers) = Unit {0}
-IsBuilt _ = ⊥
-
 -- why nothing is printed of a request
 pub data WhyNot (request : Request) (files : Change FilesState) (stopper : Change StopperState) : Refusal → Type 0 where
   read_fault : (name : List ℕ) → file_of_request request ≡ Some name → HasFaultAt files name → Unchanged stopper
@@ -64,6 +57,11 @@ pub data WhyNot (request : Request) (files : Change FilesState) (stopper : Chang
   checkpoint : (s : Sum) (bytes : List ℕ) (error : CheckpointError) → request ≡ resume s → Holds files s.file bytes
       → IsRefusal bytes error → Unchanged files → Unchanged stopper → WhyNot request files stopper (refusal.Checkpoint error)
   no_memory : Unchanged files → MayHaveStopped request stopper → WhyNot request files stopper refusal.NoMemory
+
+-- the answer of a step that fails for want of memory alone
+abbrev pub as_refusal : Result Printable NoMemory → Result Printable Refusal
+as_refusal (Ok p) = Ok p
+as_refusal (Err e) = Err refusal.NoMemory
 
 -- what a request comes to, before anything is written
 abbrev pub IsWork : Request → Change FilesState → Change StopperState → Result Printable Refusal → Type 0

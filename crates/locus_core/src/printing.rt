@@ -20,16 +20,18 @@ pub(crate) fn print<O: Sink, E: Sink>(out: &mut O, err: &mut E, printable: Print
         (sink_change E.written E.is_flushed E.faults err.old err.new) printable.status printable.text.items result.status }
     ensures shares { result.shares ≡ printable.shares }
 {
-    let status = match put_all(out, printable.text.as_slice()) {
-        Ok(()) => printable.status,
+    match put_all(out, printable.text.as_slice()) {
+        Ok(()) => Answer {
+            status: printable.status,
+            shares: printable.shares,
+        },
         Err(Failed) => {
             tell(err, b"write fault\n");
-            7
+            Answer {
+                status: 7,
+                shares: printable.shares,
+            }
         }
-    };
-    Answer {
-        status,
-        shares: printable.shares,
     }
 }
 

@@ -1,12 +1,12 @@
 //! What a request comes to, before anything is written.
 
 ghost use Rattle.std.specs.Prelude.{◌≡◌, ◌≢◌, ◌<◌, ◌^◌, Ok, Err, IfOk, IfErr, OnErr, [], suc};
-ghost use Rattle.command_line.specs.Limits.{IsSumWithin, IsWithin, AreWorkers};
+ghost use Rattle.command_line.specs.Limits.{IsBuilt, IsSumWithin, IsWithin};
 ghost use Rattle.command_line.specs.Requests.{sum_of, request_of, run, resume, soak};
 ghost use Rattle.problem_toml.specs.Generator.{generated_problem};
 ghost use Rattle.problem_toml.specs.Reading.{reading_of_any_length};
 ghost use Rattle.locus_core.specs.Outside.{Unchanged, files_change, stopper_change, HasFaultAt};
-ghost use Rattle.locus_core.specs.Steps.{IsBuilt, IsWork, Loads};
+ghost use Rattle.locus_core.specs.Steps.{IsWork, Loads, as_refusal};
 
 use crate::sums::{go_on, soak};
 use checkpoint::{CheckpointError, fresh};
@@ -48,13 +48,13 @@ pub(crate) enum Refusal {
     NoMemory,
 }
 
-impl From<NoMemory> for Refusal {
-    ghost use Rattle.locus_core.specs.declared.work.Refusal.TheVariants.{NoMemory};
-
-    ghost from_gives = { λ _ e. e ≡ NoMemory };
-
-    fn from(_error: residue::NoMemory) -> Self {
-        Refusal::NoMemory
+/// The answer of a step that fails for want of memory alone.
+fn or_refusal(given: Result<Printable, NoMemory>) -> Result<Printable, Refusal>
+    ensures { result ≡ as_refusal given }
+{
+    match given {
+        Ok(printable) => Ok(printable),
+        Err(NoMemory) => Err(Refusal::NoMemory),
     }
 }
 
@@ -75,10 +75,15 @@ pub(crate) fn work<R: Threads + Sync, F: Files, S: Stopper, G: Gate>(
     match command {
         Command::Run(request) => run(rt, alloc, request, files, stopper, gate),
         Command::Resume(request) => resume(rt, alloc, request, files, stopper, gate),
-        Command::Make { number } => Ok(make(alloc, number as u32)?),
-        Command::Soak { number, workers } => {
-            Ok(soak(rt, alloc, number as u32, workers as u32, stopper, gate)?)
-        }
+        Command::Make { number } => or_refusal(make(alloc, number as u32)),
+        Command::Soak { number, workers } => or_refusal(soak(
+            rt,
+            alloc,
+            number as u32,
+            workers as u32,
+            stopper,
+            gate,
+        )),
         _ => unreachable!(),
     }
 }
@@ -102,9 +107,13 @@ fn run<R: Threads + Sync, F: Files, S: Stopper, G: Gate>(
         Err(LoadError::NoMemory) => return Err(Refusal::NoMemory),
     };
     match fresh(alloc, bytes.as_slice()) {
-        Ok(state) => Ok(go_on(rt, alloc, state, request, stopper, gate)?),
-        Err(ProblemError::NoMemory) => Err(Refusal::NoMemory),
-        Err(error) => Err(Refusal::Problem(error)),
+        Ok(state) => or_refusal(go_on(rt, alloc, state, request, stopper, gate)),
+        Err(error) => {
+            if let ProblemError::NoMemory = error {
+                return Err(Refusal::NoMemory);
+            }
+            Err(Refusal::Problem(error))
+        }
     }
 }
 
@@ -127,9 +136,13 @@ fn resume<R: Threads + Sync, F: Files, S: Stopper, G: Gate>(
         Err(LoadError::NoMemory) => return Err(Refusal::NoMemory),
     };
     match checkpoint::read(alloc, bytes.as_slice()) {
-        Ok(state) => Ok(go_on(rt, alloc, state, request, stopper, gate)?),
-        Err(CheckpointError::NoMemory) => Err(Refusal::NoMemory),
-        Err(error) => Err(Refusal::Checkpoint(error)),
+        Ok(state) => or_refusal(go_on(rt, alloc, state, request, stopper, gate)),
+        Err(error) => {
+            if let CheckpointError::NoMemory = error {
+                return Err(Refusal::NoMemory);
+            }
+            Err(Refusal::Checkpoint(error))
+        }
     }
 }
 

@@ -84,6 +84,23 @@ pub const LINE_SUMS: [(&str, &str, &str); 9] = [
     ),
 ];
 
+/// Cubics on a quintic threefold.
+pub const CUBICS: &str = "version = 1\nrank = 4\ndegree = 3\nweights = [1, 10, 100, 1000, 10000]\n\
+    moduli = [1000000007, 1000000009]\nnumerator_bound = 20000000000000\ndenominator_bound = 1000\n\
+    [[term]]\nclasses = [{ kind = \"hypersurface\", b = 5 }]\n";
+
+pub const CUBIC_SUM: &str =
+    "0 trees 5620\nresidue 1000000007 132021295\nresidue 1000000009 169058332\nfraction 8564575000/27\n|";
+
+/// Quartics on a quintic threefold (Candelas, de la Ossa, Green and Parkes 1991).
+pub const QUARTICS: &str =
+    "version = 1\nrank = 4\ndegree = 4\nweights = [1, 10, 100, 1000, 10000]\n\
+    moduli = [1000000007, 1000000009]\nnumerator_bound = 20000000000000\ndenominator_bound = 1000\n\
+    [[term]]\nclasses = [{ kind = \"hypersurface\", b = 5 }]\n";
+
+pub const QUARTIC_SUM: &str =
+    "0 trees 176100\nresidue 1000000007 14479504\nresidue 1000000009 670729025\nfraction 15517926796875/64\n|";
+
 /// Sums of degrees 2 and 3: a whole text, and what is written.
 pub const CURVE_SUMS: [(&str, &str); 5] = [
     (
@@ -112,12 +129,7 @@ pub const CURVE_SUMS: [(&str, &str); 5] = [
         denominator_bound = 50\n\n[[term]]\ncoefficient = 1\n\n[[term.classes]]\nkind = \"hypersurface\"\nb = 5\n",
         "0 trees 260\nresidue 1000000007 375609612\nfraction 4876875/8\n|",
     ),
-    (
-        "version = 1\nrank = 4\ndegree = 3\nweights = [1, 10, 100, 1000, 10000]\n\
-        moduli = [1000000007, 1000000009]\nnumerator_bound = 20000000000000\ndenominator_bound = 1000\n\
-        [[term]]\nclasses = [{ kind = \"hypersurface\", b = 5 }]\n",
-        "0 trees 5620\nresidue 1000000007 132021295\nresidue 1000000009 169058332\nfraction 8564575000/27\n|",
-    ),
+    (CUBICS, CUBIC_SUM),
 ];
 
 // Lines in the projective line, with a bound on the top below 3.
@@ -270,22 +282,79 @@ pub const REFUSALS: [(u8, &str, &str, &str, &str); 9] = [
     ),
 ];
 
-/// Calls of an output of at most four bytes a write that fail, over the text of [`CONICS`], of 53 bytes: fourteen writes
-/// and the flush.
-pub const WRITE_FAULTS: [(&[u64], &str); 6] = [
-    (&[0], "7 |write fault\n"),
-    (&[1], "7 tree|write fault\n"),
-    (&[6], "7 trees 8\nresidue 101 38\nr|write fault\n"),
+/// Words that `clap` refuses with a text that begins with `error: `.
+pub const REFUSED_WORDS: [&[&str]; 16] = [
+    &[],
+    &["locus"],
+    &["locus", "run"],
+    &["locus", "run", "-f"],
+    &["locus", "walk", "f"],
+    &["locus", "help"],
+    &["locus", "run", "f", "f"],
+    &["run", "f"],
+    &["locus", "--workers", "2", "run", "f"],
+    &["locus", "run", "f", "--workers", "0"],
+    &["locus", "run", "f", "--workers", "65"],
+    &["locus", "run", "f", "--workers", "2", "--workers", "2"],
+    &["locus", "soak", "0", "--budget", "5"],
+    &["locus", "make", "-1"],
+    &["locus", "make", "4294967296"],
+    &["locus", "resume"],
+];
+
+/// Words that are refused at the first look, before `clap` reads them.
+pub const REFUSED_FIRST: [&[&str]; 4] = [
+    &["locus", "run", ""],
+    &["locus", "run", "-"],
+    &["locus", "run", "--", "f"],
+    &["locus", "run", "f", "--workers="],
+];
+
+/// The problem of the lines in the projective line, whole.
+pub const ONE_LINE: &str = "version = 1\nrank = 1\ndegree = 1\nweights = [1, 3]\nmoduli = [101]\n\
+    numerator_bound = 10\ndenominator_bound = 4\n[[term]]\nclasses = []\n";
+
+/// What runs tell, and how many shares they have with what sum: one share for each worker, and one for each block of 64
+/// trees. The cubics have 88 blocks.
+pub const SHARES: [(&[&str], &str, &str, (usize, u64)); 6] = [
     (
-        &[13],
-        "7 trees 8\nresidue 101 38\nresidue 1001 876\nfraction 1/8|write fault\n",
+        &["locus", "run", "f", "--workers", "64"],
+        ONE_LINE,
+        LINE,
+        (64, 1),
+    ),
+    (&["locus", "run", "f"], CUBICS, CUBIC_SUM, (1, 88)),
+    (
+        &["locus", "run", "f", "--workers=2"],
+        CUBICS,
+        CUBIC_SUM,
+        (2, 88),
     ),
     (
-        &[14],
-        "7 trees 8\nresidue 101 38\nresidue 1001 876\nfraction 1/8\n|write fault\n",
+        &["locus", "run", "f", "--workers", "7"],
+        CUBICS,
+        CUBIC_SUM,
+        (7, 88),
     ),
     (
-        &[15],
-        "0 trees 8\nresidue 101 38\nresidue 1001 876\nfraction 1/8\n|",
+        &["locus", "soak", "0", "--workers", "3"],
+        "",
+        "0 soak 0\ntrees 5620\nresidue 1000000007 132021295\nresidue 1000000009 169058332\nfraction 8564575000/27\n|",
+        (3, 88),
+    ),
+    (
+        &["locus", "run", "f", "--workers", "3"],
+        "",
+        "3 |problem refused 3 MissingKey top version\n",
+        (0, 0),
     ),
 ];
+
+// The digests of the checkpoint of the conics behind three trees, as SHA-256 gives them: of version 2, of version 1, and of
+// version 2 with 91 in place of 90.
+pub const DIGEST: &str = "a7bd2318184b6f94e9c1099d3dfccbb36e436f91ba5cc7aee076a56099504b35";
+
+pub const DIGEST_OF_VERSION_1: &str =
+    "4626e88ddba7b562312ec8754b21e32d080fc0698b25fb199341d794f130ba80";
+
+pub const CHANGED_DIGEST: &str = "f7ed9edf538955baa10d8a46c6b3c5fd5432532cfef3948f51e223b007dccfe8";
