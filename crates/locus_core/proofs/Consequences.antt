@@ -23,7 +23,7 @@ use Rattle.locus_core.specs.Headline.{IsDoneStatus, IsPrintedStatus, IsStatus, A
 use Rattle.locus_core.proofs.Inversions.{same_request, same_bytes, same_file, run_not_resume, run_not_make, resume_not_make, begun_by_run, begun_by_resume, make_begins_nothing, not_both_states}
 
 -- ---- which statuses there are
-done_is : (found : List (Option Fraction)) → IsDoneStatus (done_status found)
+pub done_is : (found : List (Option Fraction)) → IsDoneStatus (done_status found)
 done_is found = by_all (list_all is_some found)
   where
     by_all : (all : Bool) → IsDoneStatus (if all then 0 else 1)

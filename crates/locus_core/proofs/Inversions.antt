@@ -1,5 +1,6 @@
 -- What is known of a sum that began: by its request, and by what its file holds.
-use Rattle.std.proofs.Common.{◌≡◌, ℕ, List, [], Option, Some, None, Result, Ok, Err, IfSome, IsSome, refl, sym, ap, ◌∙◌, subst, ◌⊎◌, inl, inr}
+use Rattle.std.proofs.Common.{◌≡◌, ℕ, List, [], Option, Some, None, Result, Ok, Err, IfSome, IsSome, refl, sym, ap, ap₂, ◌∙◌, subst, ◌⊎◌, inl, inr}
+use Rattle.std.proofs.lemmas.Bool.{false≢true}
 use Rattle.std.proofs.lemmas.Option.{same_Some}
 use Rattle.locus_io.specs.Content.{NamedFiles, file_of}
 use Rattle.problem.specs.Rules.{ProblemView}
@@ -116,3 +117,45 @@ pub make_begins_nothing : (files : Change FilesState) (r : Request) (number : �
 make_begins_nothing files _ number _ (by_run t bytes p file reads) e = run_not_make t number e
 make_begins_nothing files _ number _ (by_resume t bytes state file is of) e = resume_not_make t number e
 make_begins_nothing files _ number _ (by_soak k workers) e = let n = ap is_run e in cc
+
+pub begun_by_soak : (files : Change FilesState) (r : Request) (number workers : ℕ) (b : Beginning) → Begins files r b → r ≡ soak number workers
+    → b ≡ of_number number workers
+begun_by_soak files _ number workers _ (by_run t bytes p file reads) e = absurd (let n = ap is_run e in let f : ⊥ = cc in f)
+begun_by_soak files _ number workers _ (by_resume t bytes state file is of) e = absurd (let n = ap is_run e in let f : ⊥ = cc in f)
+begun_by_soak files _ number workers _ (by_soak k w) e =
+    ap₂ of_number (ap number_in e) (ap workers_of e)
+  where
+    number_in : Request → ℕ
+    number_in (soak k w) = k
+    number_in _ = 0
+
+    workers_of : Request → ℕ
+    workers_of (soak k w) = w
+    workers_of _ = 0
+
+-- ---- one beginning
+-- files that tell, or a request for no file
+pub same_beginning : (files : Change FilesState) (request : Request) (a b : Beginning)
+    → IsSome files.before.content ⊎ (file_of_request request ≡ None) → Begins files request a → Begins files request b → a ≡ b
+same_beginning files _ _ b (inr none) (by_run s bytes p file reads) other = absurd (let f : ⊥ = cc in f)
+same_beginning files _ _ b (inr none) (by_resume s bytes state file is of) other = absurd (let f : ⊥ = cc in f)
+same_beginning files _ _ b known (by_soak number workers) other = sym (begun_by_soak files _ number workers b other refl)
+same_beginning files _ _ b (inl told) (by_run s bytes p file reads) other = by_content files.before.content refl told
+  where
+    by_content : (c : Option NamedFiles) → files.before.content ≡ c → IsSome c → of_text bytes p (plan_of s) ≡ b
+    by_content None is some = absurd (false≢true some)
+    by_content (Some told) is some =
+        let h = begun_by_run files (run s) s b other refl in
+        let same = same_bytes files told s.file s.file bytes h.bytes is refl (told_bytes files told s.file bytes is file) h.file in
+        let problems : Ok p ≡ Ok h.problem = sym reads ∙ ap reading same ∙ h.reads in
+        let problem : p ≡ h.problem = cc in
+        ap₂ (λ x y. of_text x y (plan_of s)) same problem ∙ sym h.is
+same_beginning files _ _ b (inl told) (by_resume s bytes state file is_state of) other = by_content files.before.content refl told
+  where
+    by_content : (c : Option NamedFiles) → files.before.content ≡ c → IsSome c → of_state state (plan_of s) ≡ b
+    by_content None is some = absurd (false≢true some)
+    by_content (Some told) is some =
+        let h = begun_by_resume files (resume s) s b other refl in
+        let same = same_bytes files told s.file s.file bytes h.bytes is refl (told_bytes files told s.file bytes is file) h.file in
+        let states = same_state bytes state h.state is_state of h.is_state (subst (IsTextOf h.state) (sym same) h.text) in
+        ap (λ x. of_state x (plan_of s)) states ∙ sym h.is
