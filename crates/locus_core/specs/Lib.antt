@@ -4,4 +4,5 @@ pub mod Outside
 pub mod Begins
 pub mod Comes
 pub mod Ends
+pub mod Headline
 pub mod Steps

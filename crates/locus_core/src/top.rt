@@ -1,8 +1,11 @@
 //! The top call.
 
-ghost use Rattle.std.specs.Prelude.{◌≡◌, codes, map, string_bytes, []};
+ghost use Rattle.std.specs.Prelude.{◌≡◌, ◌↔◌, codes, map, string_bytes, []};
 ghost use Rattle.locus_core.specs.Outside.{files_change, sink_change, stopper_change, Tells};
+ghost use Rattle.locus_core.specs.Words.{AskNothing};
 ghost use Rattle.locus_core.specs.Ends.{Ends};
+ghost use Rattle.locus_core.specs.Headline.{IsStatus, Accepts, NamesBadTrees, NeedsItsFile, IsDecided, MakesProblem};
+ghost use Rattle.locus_core.specs.Headline.{IsDoneStatus, AsksNoText, PrintsSums, NamesLeast, PrintsCheckpoint, ClaimsBlocks, WritesBytes};
 
 use crate::printing::{end as end_with, print, refuse};
 use crate::words::refuse_words as refuse_read_words;
@@ -55,7 +58,11 @@ fn end<R: Threads + Sync, F: Files, O: Sink, E: Sink, S: Stopper, G: Gate>(
     }
 }
 
-/// Does all that the program does.
+/// Does all that the program does: it reads the words, and does what they ask for. `run FILE` loads and reads a problem and
+/// sums the contributions of all its decorated trees, `resume FILE` goes on with a sum that was paused, `make N` writes a
+/// generated problem, and `soak N` sums one. The whole text is made before its first byte is written.
+///
+/// What is said of a file holds if `files` tells what it holds, and what is said of written bytes if the sink tells them.
 pub fn locus<R: Threads + Sync, F: Files, O: Sink, E: Sink, S: Stopper, G: Gate>(
     rt: &R,
     alloc: Global,
@@ -67,6 +74,123 @@ pub fn locus<R: Threads + Sync, F: Files, O: Sink, E: Sink, S: Stopper, G: Gate>
     gate: &G,
 ) -> Answer
     ensures ends { Ends (record {
+      words = map string_bytes words.now;
+      files = files_change F.content F.faults F.last_fault files.old files.new;
+      out = sink_change O.written O.is_flushed O.faults out.old out.new;
+      err = sink_change E.written E.is_flushed E.faults err.old err.new;
+      stopper = stopper_change S.stops S.last_stop stopper.old stopper.new;
+      shares = result.shares;
+    }) result.status }
+
+    // No other status comes. Status 9 is want of memory, and no clause says when memory is refused.
+    ensures known { IsStatus result.status }
+
+    // Status 2 comes exactly if the words ask for nothing.
+    ensures words { (result.status ≡ 2) ↔ AskNothing (map string_bytes words.now) }
+
+    // If the file was read, its bytes decide whether they are refused: for `run` status 3 comes exactly if they write no
+    // problem, and for `resume` status 8 exactly if they are the text of no state.
+    ensures accepted { Accepts (record {
+      words = map string_bytes words.now;
+      files = files_change F.content F.faults F.last_fault files.old files.new;
+      out = sink_change O.written O.is_flushed O.faults out.old out.new;
+      err = sink_change E.written E.is_flushed E.faults err.old err.new;
+      stopper = stopper_change S.stops S.last_stop stopper.old stopper.new;
+      shares = result.shares;
+    }) result.status }
+
+    // Of a `run` whose file was read and accepted: if the text of its sum was printed whole, status 4 comes exactly if some
+    // decorated tree is bad.
+    ensures bad { NamesBadTrees (record {
+      words = map string_bytes words.now;
+      files = files_change F.content F.faults F.last_fault files.old files.new;
+      out = sink_change O.written O.is_flushed O.faults out.old out.new;
+      err = sink_change E.written E.is_flushed E.faults err.old err.new;
+      stopper = stopper_change S.stops S.last_stop stopper.old stopper.new;
+      shares = result.shares;
+    }) result.status }
+
+    // If the file that is asked for is not there, the run ends with a read fault, but for want of memory.
+    ensures absent { NeedsItsFile (record {
+      words = map string_bytes words.now;
+      files = files_change F.content F.faults F.last_fault files.old files.new;
+      out = sink_change O.written O.is_flushed O.faults out.old out.new;
+      err = sink_change E.written E.is_flushed E.faults err.old err.new;
+      stopper = stopper_change S.stops S.last_stop stopper.old stopper.new;
+      shares = result.shares;
+    }) result.status }
+
+    // If neither the files nor the output count a fault and nobody asks for a stop, a sum that is begun has the status of
+    // its numbers within the budget, but for want of memory: 4 if one of them is bad; otherwise 5 if trees are left, and 0
+    // or 1 if none is.
+    ensures decided { IsDecided (record {
+      words = map string_bytes words.now;
+      files = files_change F.content F.faults F.last_fault files.old files.new;
+      out = sink_change O.written O.is_flushed O.faults out.old out.new;
+      err = sink_change E.written E.is_flushed E.faults err.old err.new;
+      stopper = stopper_change S.stops S.last_stop stopper.old stopper.new;
+      shares = result.shares;
+    }) result.status }
+
+    // At status 0 and 1, but for `make`, the residues of all trees and the only fractions that agree with them are printed.
+    ensures residues { AsksNoText (record {
+      words = map string_bytes words.now;
+      files = files_change F.content F.faults F.last_fault files.old files.new;
+      out = sink_change O.written O.is_flushed O.faults out.old out.new;
+      err = sink_change E.written E.is_flushed E.faults err.old err.new;
+      stopper = stopper_change S.stops S.last_stop stopper.old stopper.new;
+      shares = result.shares;
+    }) → IsDoneStatus result.status → PrintsSums (record {
+      words = map string_bytes words.now;
+      files = files_change F.content F.faults F.last_fault files.old files.new;
+      out = sink_change O.written O.is_flushed O.faults out.old out.new;
+      err = sink_change E.written E.is_flushed E.faults err.old err.new;
+      stopper = stopper_change S.stops S.last_stop stopper.old stopper.new;
+      shares = result.shares;
+    }) result.status }
+
+    // At status 4 the least bad number from the first on is named, with its first modulus and its tree.
+    ensures refusal { result.status ≡ 4 → NamesLeast (record {
+      words = map string_bytes words.now;
+      files = files_change F.content F.faults F.last_fault files.old files.new;
+      out = sink_change O.written O.is_flushed O.faults out.old out.new;
+      err = sink_change E.written E.is_flushed E.faults err.old err.new;
+      stopper = stopper_change S.stops S.last_stop stopper.old stopper.new;
+      shares = result.shares;
+    }) }
+
+    // At status 5 a checkpoint is printed, which a later run resumes.
+    ensures pause { result.status ≡ 5 → PrintsCheckpoint (record {
+      words = map string_bytes words.now;
+      files = files_change F.content F.faults F.last_fault files.old files.new;
+      out = sink_change O.written O.is_flushed O.faults out.old out.new;
+      err = sink_change E.written E.is_flushed E.faults err.old err.new;
+      stopper = stopper_change S.stops S.last_stop stopper.old stopper.new;
+      shares = result.shares;
+    }) }
+
+    // Each worker has a share, and the shares add up to the blocks of the rounds that were run.
+    ensures claims { ClaimsBlocks (record {
+      words = map string_bytes words.now;
+      files = files_change F.content F.faults F.last_fault files.old files.new;
+      out = sink_change O.written O.is_flushed O.faults out.old out.new;
+      err = sink_change E.written E.is_flushed E.faults err.old err.new;
+      stopper = stopper_change S.stops S.last_stop stopper.old stopper.new;
+      shares = result.shares;
+    }) result.status }
+
+    // What goes to the output, and when the files count a fault.
+    ensures bytes { WritesBytes (record {
+      words = map string_bytes words.now;
+      files = files_change F.content F.faults F.last_fault files.old files.new;
+      out = sink_change O.written O.is_flushed O.faults out.old out.new;
+      err = sink_change E.written E.is_flushed E.faults err.old err.new;
+      stopper = stopper_change S.stops S.last_stop stopper.old stopper.new;
+      shares = result.shares;
+    }) result.status }
+
+    // `make` prints a text that reads as the generated problem, but for a fault of the output and want of memory.
+    ensures make { MakesProblem (record {
       words = map string_bytes words.now;
       files = files_change F.content F.faults F.last_fault files.old files.new;
       out = sink_change O.written O.is_flushed O.faults out.old out.new;

@@ -5,17 +5,17 @@ use Rattle.localisation.specs.Agreement.{modulus_at, integral_at}
 use Rattle.localisation.specs.Contribution.{kontsevich_sum}
 use Rattle.recover_fraction.specs.declared.recovery.Fraction.{Fraction}
 use Rattle.problem.specs.Rules.{ProblemView}
-use Rattle.report.specs.Outcome.{IsDone}
+use Rattle.problem.specs.Sums.{AreKontsevichSums}
 use Rattle.report.specs.Fractions.{residues_of, AreReduced, AreFractions, FindSums}
 use Rattle.report.proofs.LowestTerms.{residue_in_lowest_terms}
 use Rattle.report.proofs.Integrals.{place_within, modulus_there, integral_there, residue_there}
 
 -- sums are below their moduli
-pub reduced_from_done : (p : ProblemView) (residues : List ℕ) → IsDone p residues → AreReduced p residues
-reduced_from_done p residues d = record { as_many = d.sums.as_many; below = λ place l. (d.sums.each place l).below }
+pub reduced_from_done : (p : ProblemView) (residues : List ℕ) → AreKontsevichSums p residues → AreReduced p residues
+reduced_from_done p residues d = record { as_many = d.as_many; below = λ place l. (d.each place l).below }
 
 -- the residue of the sum of the integral i modulo the modulus j
-sum_residue : (p : ProblemView) (residues : List ℕ) (i j : ℕ) → IsDone p residues → i < length p.integrals
+sum_residue : (p : ProblemView) (residues : List ℕ) (i j : ℕ) → AreKontsevichSums p residues → i < length p.integrals
     → j < length p.moduli
     → IsResidue (slice_index p.moduli j) (kontsevich_sum p.weights p.shape (get_or p.integrals i [])) (slice_index (residues_of p residues i) j)
 sum_residue p residues i j d h l =
@@ -26,9 +26,9 @@ sum_residue p residues i j d h l =
     (subst (λ terms. IsResidue (modulus_at p.moduli place) (kontsevich_sum p.weights p.shape terms) (slice_index (residues_of p residues i) j))
     (integral_there p.moduli p.integrals i j l)
     (subst (λ x. IsResidue (modulus_at p.moduli place) (kontsevich_sum p.weights p.shape (integral_at p.moduli p.integrals place)) x)
-    (sym (residue_there p residues i j l)) (d.sums.each place (place_within p i j h l))))
+    (sym (residue_there p residues i j l)) (d.each place (place_within p i j h l))))
 
-pub sums_found : (p : ProblemView) (residues : List ℕ) (found : List (Option Fraction)) → IsDone p residues
+pub sums_found : (p : ProblemView) (residues : List ℕ) (found : List (Option Fraction)) → AreKontsevichSums p residues
     → AreFractions p residues found
     → FindSums p found
 sums_found p residues found d h i l f lowest top bottom =

@@ -1,0 +1,180 @@
+-- The status that a sum has to have, and which decorated trees a refusal says to be bad.
+use Rattle.std.proofs.Common.{◌≡◌, ◌≢◌, ◌↔◌, ◌⊎◌, ℕ, inl, inr, ◌+◌, ◌*◌, ◌<◌, ◌≤◌, min, true, List, [], Option, Some, None, Result, Ok, Err, IfSome, IsSome, refl, sym, ap, ◌∙◌, subst, arith, ⊎_elim}
+use Rattle.std.proofs.lemmas.Bool.{false≢true, cases_lt}
+use Rattle.trees.specs.Numbers.{tree_of}
+use Rattle.trees.proofs.NumberLaws.{tree_of_in_all_trees}
+use Rattle.localisation.specs.Agreement.{NoneBad, IsLeastBad, is_bad_number}
+use Rattle.localisation.proofs.AllNumbers.{none_bad_trees, bad_number_of}
+use Rattle.decorated_tree.proofs.Counts.{limits}
+use Rattle.locus_io.specs.Causes.{Rose}
+use Rattle.locus_io.specs.Content.{NamedFiles, file_of}
+use Rattle.problem.specs.Rules.{ProblemView, KeepsRules}
+use Rattle.problem.specs.Sums.{count_of, is_bad_of, is_bad_tree_of, HasBadTree}
+use Rattle.problem_toml.specs.Reading.{reading}
+use Rattle.checkpoint.specs.Texts.{IsTextOf}
+use Rattle.rounds.specs.Rounds.{budget_end, reached}
+use Rattle.rounds.specs.Outcomes.{SumView, IsDone, IsPaused, IsNoInverse, IsOutcome, IsEarly}
+use Rattle.rounds.specs.declared.progress.Outcome.{Outcome}
+use Rattle.rounds.specs.declared.progress.Outcome.TheVariants.{Done, Paused, NoInverse}
+use Rattle.command_line.specs.Requests.{Request, Sum, run, resume, make, soak}
+use Rattle.locus_core.specs.Words.{AsksFor}
+use Rattle.locus_core.specs.Outside.{Change, Unchanged, FilesState, StopperState, HasStopped, Holds}
+use Rattle.locus_core.specs.Begins.{Beginning, Begins, by_run, by_resume, by_soak, of_text, of_state, of_number, plan_of}
+use Rattle.locus_core.specs.Comes.{Comes, Sums, IsAnswer, done, paused, no_inverse, file_of_request}
+use Rattle.locus_core.specs.Ends.{Run, Ends, printed, words_refused, problem_refused, read_fault, write_fault, checkpoint_refused, want_of_memory}
+use Rattle.locus_core.specs.Headline.{IsDoneStatus, IsPrintedStatus, AsksOf, NamesBadTrees, HasBadNumber, end_of, IsStatusOf, KnowsItsFile, IsDecided}
+use Rattle.locus_core.proofs.Inversions.{same_request, same_bytes, same_file, told_bytes, run_not_make, begun_by_run, begun_by_resume, begun_by_soak, make_begins_nothing, not_both_read, not_both_states, same_beginning}
+use Rattle.locus_core.proofs.Consequences.{done_is, came, CameBySum, CameByMake, if_told, never}
+
+pub small_degree : (p : ProblemView) → KeepsRules p → p.shape.degree < 11
+small_degree p rules = let l = limits p.shape.rank p.shape.degree p.shape.marks rules.shape in let m = l.most_degree in omega (arith, m)
+
+-- ---- bad trees
+-- the tree of a bad number is bad
+tree_bad : (p : ProblemView) (k : ℕ) → is_bad_of p k ≡ true → is_bad_tree_of p (tree_of p.shape k) ≡ true
+unfolding is_bad_number
+tree_bad p k h = h
+
+pub below_count : (s : SumView) (budget k number modulus : ℕ) → IsNoInverse s budget k number modulus → number < count_of s.problem
+below_count s budget k number modulus h = let below = h.least.below in omega (arith, below)
+
+has_bad_tree : (s : SumView) (budget k number modulus : ℕ) → KeepsRules s.problem → IsNoInverse s budget k number modulus → HasBadTree s.problem
+has_bad_tree s budget k number modulus rules h =
+    let p = s.problem in (
+      tree_of p.shape number,
+      tree_of_in_all_trees p.shape number (small_degree p rules) (below_count s budget k number modulus h),
+      tree_bad p number h.least.is_bad,
+    )
+
+no_bad_tree : (s : SumView) (budget k : ℕ) (residues : List ℕ) → KeepsRules s.problem → IsDone s budget k residues → s.next ≡ 0 → HasBadTree s.problem → ⊥
+no_bad_tree s budget k residues rules d first (g, i, bad) =
+    let p = s.problem in
+    none_bad_trees p.weights p.integrals p.moduli p.shape (small_degree p rules)
+    (subst (λ n. NoneBad (is_bad_of p) n (count_of p)) first d.summed.none_bad) g i bad
+
+four_is : (b : Beginning) (stopper : Change StopperState) (shares : List ℕ) (outcome : Outcome) (n : ℕ) (text : List ℕ) → Sums b stopper shares outcome
+    → IsAnswer b outcome n text → b.sum.next ≡ 0 → IsDoneStatus n ⊎ (n ≡ 4) → (n ≡ 4) ↔ HasBadTree b.sum.problem
+four_is b stopper shares _ _ _ sums (done residues fractions are) first is = (
+  λ four. absurd (not_four (done_is fractions) four),
+  λ bad. absurd (no_bad_tree b.sum b.plan.budget sums.progress.rounds residues sums.rules sums.progress.outcome first bad),
+)
+  where
+    not_four : {k : ℕ} → IsDoneStatus k → k ≡ 4 → ⊥
+    not_four (inl i) f = omega (arith, i, f)
+    not_four (inr i) f = omega (arith, i, f)
+four_is b stopper shares _ _ _ sums (no_inverse number modulus) first is =
+    (λ _. has_bad_tree b.sum b.plan.budget sums.progress.rounds number modulus sums.rules sums.progress.outcome, λ _. refl)
+four_is b stopper shares _ _ _ sums (paused source next residues source_is) first (inl (inl e)) = absurd (omega (arith, e))
+four_is b stopper shares _ _ _ sums (paused source next residues source_is) first (inl (inr e)) = absurd (omega (arith, e))
+four_is b stopper shares _ _ _ sums (paused source next residues source_is) first (inr e) = absurd (omega (arith, e))
+
+no_sum_status : (n m : ℕ) → IsDoneStatus n ⊎ (n ≡ 4) → n ≡ m → m ≢ 0 → m ≢ 1 → m ≢ 4 → ⊥
+no_sum_status n m (inl (inl e)) is a b c = a (sym is ∙ e)
+no_sum_status n m (inl (inr e)) is a b c = b (sym is ∙ e)
+no_sum_status n m (inr e) is a b c = c (sym is ∙ e)
+
+pub bad : (r : Run) (n : ℕ) → Ends r n → NamesBadTrees r n
+bad r n e = if_told r.files.before.content _ (λ told is s bytes p asks reads status. by_end told is s bytes p asks reads status e)
+  where
+    by_sum : (told : NamedFiles) → r.files.before.content ≡ Some told → (s : Sum) (bytes : List ℕ) (p : ProblemView) → AsksOf r told (run s) bytes
+        → reading bytes ≡ Ok p → IsDoneStatus n ⊎ (n ≡ 4) → {request : Request} {text : List ℕ} → request ≡ run s
+        → CameBySum r.files r.stopper r.shares request n text ⊎ CameByMake request n text → (n ≡ 4) ↔ HasBadTree p
+    by_sum told is s bytes p asks reads status {request} same (inl c) =
+        let h = begun_by_run r.files request s c.beginning c.begins same in
+        let name = same_file (run s) (run s) asks.name s.file refl asks.asked refl in
+        let b = same_bytes r.files told asks.name s.file bytes h.bytes is name asks.file h.file in
+        let problems : Ok h.problem ≡ Ok p = sym h.reads ∙ ap reading (sym b) ∙ reads in
+        let problem : h.problem ≡ p = cc in
+        let begun = h.is in
+        subst (λ q. (n ≡ 4) ↔ HasBadTree q) (ap (λ x. x.sum.problem) begun ∙ problem)
+        (four_is c.beginning r.stopper r.shares c.outcome n _ c.sums c.answer (ap (λ x. x.sum.next) begun) status)
+    by_sum told is s bytes p asks reads status same (inr c) = absurd (run_not_make s c.number (sym same ∙ c.asked))
+
+    by_end : (told : NamedFiles) → r.files.before.content ≡ Some told → (s : Sum) (bytes : List ℕ) (p : ProblemView) → AsksOf r told (run s) bytes
+        → reading bytes ≡ Ok p → IsDoneStatus n ⊎ (n ≡ 4) → Ends r n → (n ≡ 4) ↔ HasBadTree p
+    by_end told is s bytes p asks reads status (printed w) =
+        by_sum told is s bytes p asks reads status (same_request r w.request (run s) w.words asks.words) (came w.comes)
+    by_end told is s bytes p asks reads status (words_refused e w) = absurd (w.words (run s) asks.words)
+    by_end told is s bytes p asks reads status (problem_refused e w) = absurd (no_sum_status n 3 status e (λ x. cc) (λ x. cc) (λ x. cc))
+    by_end told is s bytes p asks reads status (read_fault e w) = absurd (no_sum_status n 6 status e (λ x. cc) (λ x. cc) (λ x. cc))
+    by_end told is s bytes p asks reads status (write_fault e w) = absurd (no_sum_status n 7 status e (λ x. cc) (λ x. cc) (λ x. cc))
+    by_end told is s bytes p asks reads status (checkpoint_refused e w) = absurd (no_sum_status n 8 status e (λ x. cc) (λ x. cc) (λ x. cc))
+    by_end told is s bytes p asks reads status (want_of_memory e w) = absurd (no_sum_status n 9 status e (λ x. cc) (λ x. cc) (λ x. cc))
+
+-- ---- the status of a sum that nobody stops
+stopped_rose : (stopper : Change StopperState) (o : Option (List ℕ)) → IsSome o × IfSome o (λ name. HasStopped stopper name)
+    → Rose stopper.before.stops stopper.after.stops
+stopped_rose stopper (Some name) (s, h) = h.rose
+stopped_rose stopper None (s, h) = absurd (false≢true s)
+
+-- where a pause stands that is not early
+pub paused_end : (count first budget k next : ℕ) → next ≡ reached first (budget_end count first budget) k → next < count
+    → (next < first + budget → ⊥) → budget_end count first budget ≡ next
+paused_end count first budget k next at left late =
+    ⊎_elim (λ early. absurd (late early)) (λ reached. omega (arith, at, left, reached)) (cases_lt next (first + budget))
+
+answered : (b : Beginning) (stopper : Change StopperState) (shares : List ℕ) (outcome : Outcome) (n : ℕ) (text : List ℕ) → Sums b stopper shares outcome
+    → IsAnswer b outcome n text → ¬ Rose stopper.before.stops stopper.after.stops → IsStatusOf b n
+answered b stopper shares _ _ _ sums (done residues fractions are) still =
+    let d : IsDone b.sum b.plan.budget sums.progress.rounds residues = sums.progress.outcome in
+    let last = d.last in
+    let end : end_of b ≡ count_of b.sum.problem = omega (arith, last) in
+    inr (subst (λ x. NoneBad (is_bad_of b.sum.problem) b.sum.next x) (sym end) d.summed.none_bad, inr (done_is fractions, end))
+answered b stopper shares _ _ _ sums (no_inverse number modulus) still =
+    let h : IsNoInverse b.sum b.plan.budget sums.progress.rounds number modulus = sums.progress.outcome in
+    let last = h.last in
+    let started = h.rounds h.round (let l : h.round < sums.progress.rounds = omega (arith, last) in l) in
+    let from = h.least.from in
+    let below = h.least.below in
+    inl (refl, (number, omega (arith, from, started), omega (arith, below), h.least.is_bad))
+answered b stopper shares _ _ _ sums (paused source next residues source_is) still =
+    let h : IsPaused b.sum b.plan.budget sums.progress.rounds next residues = sums.progress.outcome in
+    let late : next < b.sum.next + b.plan.budget → ⊥ = λ early. still (stopped_rose stopper b.plan.stop_file (sums.stopped early)) in
+    by_end h late
+  where
+    by_end : IsPaused b.sum b.plan.budget sums.progress.rounds next residues → (next < b.sum.next + b.plan.budget → ⊥) → IsStatusOf b 5
+    by_end h late =
+        let at = h.at in
+        let left = h.left in
+        let end : end_of b ≡ next = paused_end (count_of b.sum.problem) b.sum.next b.plan.budget sums.progress.rounds next at left late in
+        inr (subst (λ x. NoneBad (is_bad_of b.sum.problem) b.sum.next x) (sym end) h.summed.none_bad, inl (refl, omega (arith, end, left)))
+
+pub decided : (r : Run) (n : ℕ) → Ends r n → IsDecided r n
+decided r n e served taken still request b asks knows begins = by_end e
+  where
+    by_came : {asked : Request} {text : List ℕ} → asked ≡ request → CameBySum r.files r.stopper r.shares asked n text ⊎ CameByMake asked n text
+        → IsStatusOf b n ⊎ (n ≡ 9)
+    by_came same (inl c) =
+        let one = same_beginning r.files request c.beginning b knows (subst (λ x. Begins r.files x c.beginning) same c.begins) begins in
+        inl (subst (λ x. IsStatusOf x n) one (answered c.beginning r.stopper r.shares c.outcome n _ c.sums c.answer still))
+    by_came same (inr c) = absurd (make_begins_nothing r.files request c.number b begins (sym same ∙ c.asked))
+
+    told : IsSome r.files.before.content ⊎ (file_of_request request ≡ None) → {s : Sum} → request ≡ run s ⊎ request ≡ resume s
+        → (content : NamedFiles) × (r.files.before.content ≡ Some content)
+    told known is = by_content r.files.before.content refl known is
+      where
+        by_content : (c : Option NamedFiles) → r.files.before.content ≡ c → IsSome c ⊎ (file_of_request request ≡ None)
+            → {s : Sum} → request ≡ run s ⊎ request ≡ resume s → (content : NamedFiles) × (c ≡ Some content)
+        by_content (Some content) e known is = (content, refl)
+        by_content None e (inl some) is = absurd (false≢true some)
+        by_content None e (inr none) (inl is) = let w = sym (ap file_of_request is) ∙ none in absurd (let f : ⊥ = cc in f)
+        by_content None e (inr none) (inr is) = let w = sym (ap file_of_request is) ∙ none in absurd (let f : ⊥ = cc in f)
+
+    by_end : Ends r n → IsStatusOf b n ⊎ (n ≡ 9)
+    by_end (printed w) = by_came (same_request r w.request request w.words asks) (came w.comes)
+    by_end (words_refused two w) = absurd (w.words request asks)
+    by_end (read_fault six w) = absurd (served w.files.fault.rose)
+    by_end (write_fault seven w) = absurd (taken w.out.fault)
+    by_end (want_of_memory nine w) = inr nine
+    by_end (problem_refused three w) =
+        let same = same_request r request (run w.sum) asks w.words in
+        let (content, is) = told knows (inl same) in
+        let h = begun_by_run r.files request w.sum b begins same in
+        let bytes = same_bytes r.files content w.sum.file w.sum.file h.bytes w.bytes is refl (told_bytes r.files content w.sum.file h.bytes is h.file) w.file in
+        absurd (not_both_read h.bytes h.problem w.error h.reads (ap reading bytes ∙ w.refused))
+    by_end (checkpoint_refused eight w) =
+        let same = same_request r request (resume w.sum) asks w.words in
+        let (content, is) = told knows (inr same) in
+        let h = begun_by_resume r.files request w.sum b begins same in
+        let bytes = same_bytes r.files content w.sum.file w.sum.file h.bytes w.bytes is refl (told_bytes r.files content w.sum.file h.bytes is h.file) w.file in
+        absurd (not_both_states w.bytes h.state w.error h.is_state (subst (IsTextOf h.state) bytes h.text) w.refused)
