@@ -1,8 +1,8 @@
 -- The status that a sum has to have, and which decorated trees a refusal says to be bad.
 use Rattle.std.proofs.Common.{◌≡◌, ◌≢◌, ◌↔◌, ◌⊎◌, ℕ, inl, inr, ◌+◌, ◌*◌, ◌<◌, ◌≤◌, min, true, List, [], Option, Some, None, Result, Ok, Err, IfSome, IsSome, refl, sym, ap, ◌∙◌, subst, arith, ⊎_elim}
 use Rattle.std.proofs.lemmas.Bool.{false≢true, cases_lt}
-use Rattle.trees.specs.Numbers.{tree_of}
-use Rattle.trees.proofs.NumberLaws.{tree_of_in_all_trees}
+use Rattle.trees.specs.TreeNumbers.{tree_of}
+use Rattle.trees.proofs.TreeNumbers.{tree_of_in_all_trees}
 use Rattle.localisation.specs.Agreement.{NoneBad, IsLeastBad, is_bad_number}
 use Rattle.localisation.proofs.AllNumbers.{none_bad_trees, bad_number_of}
 use Rattle.decorated_tree.proofs.Counts.{limits}

@@ -1,7 +1,7 @@
 -- The steps of a run lead to its ends.
 use Rattle.std.proofs.Common.{◌≡◌, ℕ, List, [], Result, Ok, Err, IfOk, IsErr, codes, refl, sym, ◌∙◌, subst, inl}
 use Rattle.command_line.specs.Requests.{Request}
-use Rattle.residue.specs.declared.errors.NoMemory.{NoMemory}
+use Rattle.lists.specs.declared.memory.NoMemory.{NoMemory}
 use Rattle.problem_toml.specs.declared.error.ProblemError.{ProblemError}
 use Rattle.checkpoint.specs.declared.error.CheckpointError.{CheckpointError}
 use Rattle.locus_core.specs.Texts.{refused_line, refused_checkpoint_line}

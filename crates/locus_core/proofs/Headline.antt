@@ -3,11 +3,11 @@ use Rattle.std.proofs.Common.{◌≡◌, ◌≢◌, ◌⊎◌, ℕ, inl, inr, �
 use Rattle.std.proofs.lemmas.Bool.{cases_lt}
 use Rattle.recover_fraction.specs.declared.recovery.Fraction.{Fraction}
 use Rattle.trees.specs.Decorated.{DecoratedTree, all_trees}
-use Rattle.trees.specs.Members.{IsIn}
-use Rattle.trees.specs.Numbers.{number_of}
-use Rattle.trees.proofs.NumberLaws.{tree_of_in_all_trees}
+use Rattle.lists.specs.Members.{IsIn}
+use Rattle.trees.specs.TreeNumbers.{number_of}
+use Rattle.trees.proofs.TreeNumbers.{tree_of_in_all_trees}
 use Rattle.localisation.specs.Agreement.{NoneBad, IsLeastBad, IsFirstBad}
-use Rattle.localisation.proofs.AllNumbers.{bad_number_of}
+use Rattle.localisation.proofs.AllNumbers.{bad_number_of, none_append}
 use Rattle.locus_io.specs.Causes.{Rose}
 use Rattle.problem.specs.Rules.{ProblemView, KeepsRules}
 use Rattle.problem.specs.Sums.{count_of, is_bad_of, is_bad_modulo, is_bad_tree_of}
@@ -21,7 +21,6 @@ use Rattle.rounds.specs.Outcomes.{SumView, IsDone, IsPaused, IsNoInverse, IsEarl
 use Rattle.rounds.specs.declared.progress.Outcome.{Outcome}
 use Rattle.rounds.specs.declared.progress.Outcome.TheVariants.{Done, Paused, NoInverse}
 use Rattle.rounds.proofs.Running.{keeps_truth}
-use Rattle.rounds.proofs.Summed.{none_append}
 use Rattle.command_line.specs.Requests.{Request, Sum, run, resume, make, soak}
 use Rattle.locus_core.specs.Words.{AsksFor}
 use Rattle.locus_core.specs.Outside.{Change, Unchanged, FilesState, StopperState, Takes, BreaksOff}

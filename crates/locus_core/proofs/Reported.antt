@@ -7,7 +7,7 @@ use Rattle.checkpoint.specs.Texts.{text_in}
 use Rattle.report.specs.Report.{IsDoneReport, done_status}
 use Rattle.report.specs.Texts.{done_text, no_inverse_text}
 use Rattle.report.specs.declared.report.Report.{Report}
-use Rattle.residue.specs.declared.errors.NoMemory.{NoMemory}
+use Rattle.lists.specs.declared.memory.NoMemory.{NoMemory}
 use Rattle.rounds.specs.Outcomes.{sum_of, IsProgress, IsEarly}
 use Rattle.rounds.specs.declared.progress.Progress.{Progress}
 use Rattle.rounds.specs.declared.progress.Outcome.{Outcome}

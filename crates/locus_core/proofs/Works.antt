@@ -18,7 +18,7 @@ use Rattle.locus_core.specs.Begins.{Beginning, by_run, by_resume, by_soak, of_st
 use Rattle.locus_core.specs.Comes.{Comes, summed, made, MayHaveStopped}
 use Rattle.locus_core.specs.declared.work.Printable.{Printable}
 use Rattle.locus_core.specs.declared.work.Refusal.{Refusal}
-use Rattle.residue.specs.declared.errors.NoMemory.{NoMemory}
+use Rattle.lists.specs.declared.memory.NoMemory.{NoMemory}
 use Rattle.locus_core.specs.Steps.{Loads, Continues, IsWork, as_refusal, WhyNot, problem, checkpoint, no_memory}
 use Rattle.locus_core.specs.declared.work.Refusal.TheVariants as refusal
 use Rattle.locus_core.proofs.Loading.{problem_read, problem_refused, checkpoint_read, checkpoint_refused}

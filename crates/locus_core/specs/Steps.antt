@@ -18,7 +18,7 @@ use Rattle.locus_core.specs.Outside.{Change, Unchanged, FilesState, StopperState
 use Rattle.locus_core.specs.Begins.{Beginning}
 use Rattle.locus_core.specs.Comes.{Sums, IsAnswer, Comes, file_of_request, MayHaveStopped}
 use Rattle.locus_core.specs.declared.work.Printable.{Printable}
-use Rattle.residue.specs.declared.errors.NoMemory.{NoMemory}
+use Rattle.lists.specs.declared.memory.NoMemory.{NoMemory}
 use Rattle.locus_core.specs.declared.work.Refusal.{Refusal}
 use Rattle.locus_core.specs.declared.work.Refusal.TheVariants as refusal
 
