@@ -1,9 +1,8 @@
 -- What follows from how a run ends: which statuses there are, and when each comes. The words ask for one thing, and the
 -- files hold one file of a name, so what an end says of its request and its bytes is said of those of a clause.
 use Rattle.std.specs.List.{list_all}
-use Rattle.std.proofs.Common.{◌≡◌, ◌≢◌, ◌↔◌, ◌⊎◌, ℕ, inl, inr, ◌==◌, Bool, true, false, is_some, List, [], Option, Some, None, Result, Ok, Err, IsErr, IfSome, refl, sym, ap, ◌∙◌, subst, arith, if◌then◌else◌}
+use Rattle.std.proofs.Common.{◌≡◌, ◌≢◌, ◌↔◌, ◌⊎◌, ℕ, inl, inr, ◌==◌, Bool, true, false, is_some, List, Option, Some, None, Result, Ok, IsErr, IfSome, refl, sym, ap, ◌∙◌, subst, arith, if◌then◌else◌}
 use Rattle.recover_fraction.specs.declared.recovery.Fraction.{Fraction}
-use Rattle.locus_io.specs.Causes.{Rose}
 use Rattle.locus_io.specs.Content.{NamedFiles, file_of}
 use Rattle.problem.specs.Rules.{ProblemView}
 use Rattle.problem_toml.specs.Reading.{reading, reading_of_any_length}
@@ -11,11 +10,10 @@ use Rattle.problem_toml.specs.declared.error.ProblemError.{ProblemError}
 use Rattle.problem_toml.specs.Generator.{generated_problem}
 use Rattle.report.specs.Report.{done_status}
 use Rattle.rounds.specs.declared.progress.Outcome.{Outcome}
-use Rattle.command_line.specs.Requests.{Request, Sum, run, resume, make, soak}
-use Rattle.checkpoint.specs.States.{StateView, IsState}
+use Rattle.command_line.specs.Requests.{Request, Sum, run, resume, make}
 use Rattle.checkpoint.specs.Texts.{IsTextOf}
 use Rattle.locus_core.specs.Words.{AsksFor, AskNothing}
-use Rattle.locus_core.specs.Outside.{Change, Unchanged, FilesState, StopperState, Holds, Takes}
+use Rattle.locus_core.specs.Outside.{Change, FilesState, StopperState, Holds, Takes}
 use Rattle.locus_core.specs.Begins.{Beginning, Begins}
 use Rattle.locus_core.specs.Comes.{Comes, summed, made, Sums, IsAnswer, done, paused, no_inverse, file_of_request}
 use Rattle.locus_core.specs.Ends.{Run, Ends, printed, words_refused, problem_refused, read_fault, write_fault, checkpoint_refused, want_of_memory}

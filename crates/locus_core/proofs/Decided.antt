@@ -1,30 +1,28 @@
 -- The status that a sum has to have, and which decorated trees a refusal says to be bad.
-use Rattle.std.proofs.Common.{◌≡◌, ◌≢◌, ◌↔◌, ◌⊎◌, ℕ, inl, inr, ◌+◌, ◌*◌, ◌<◌, ◌≤◌, min, true, List, [], Option, Some, None, Result, Ok, Err, IfSome, IsSome, refl, sym, ap, ◌∙◌, subst, arith, ⊎_elim}
+use Rattle.std.proofs.Common.{◌≡◌, ◌≢◌, ◌↔◌, ◌⊎◌, ℕ, inl, inr, ◌+◌, ◌<◌, true, List, Option, Some, None, Ok, IfSome, IsSome, refl, sym, ap, ◌∙◌, subst, arith, ⊎_elim}
 use Rattle.std.proofs.lemmas.Bool.{false≢true, cases_lt}
 use Rattle.trees.specs.TreeNumbers.{tree_of}
 use Rattle.trees.proofs.TreeNumbers.{tree_of_in_all_trees}
-use Rattle.localisation.specs.Agreement.{NoneBad, IsLeastBad, is_bad_number}
-use Rattle.localisation.proofs.AllNumbers.{none_bad_trees, bad_number_of}
+use Rattle.localisation.specs.Agreement.{NoneBad, is_bad_number}
+use Rattle.localisation.proofs.AllNumbers.{none_bad_trees}
 use Rattle.decorated_tree.proofs.Counts.{limits}
 use Rattle.locus_io.specs.Causes.{Rose}
-use Rattle.locus_io.specs.Content.{NamedFiles, file_of}
+use Rattle.locus_io.specs.Content.{NamedFiles}
 use Rattle.problem.specs.Rules.{ProblemView, KeepsRules}
 use Rattle.problem.specs.Sums.{count_of, is_bad_of, is_bad_tree_of, HasBadTree}
 use Rattle.problem_toml.specs.Reading.{reading}
 use Rattle.checkpoint.specs.Texts.{IsTextOf}
 use Rattle.rounds.specs.Rounds.{budget_end, reached}
-use Rattle.rounds.specs.Outcomes.{SumView, IsDone, IsPaused, IsNoInverse, IsOutcome, IsEarly}
+use Rattle.rounds.specs.Outcomes.{SumView, IsDone, IsPaused, IsNoInverse}
 use Rattle.rounds.specs.declared.progress.Outcome.{Outcome}
-use Rattle.rounds.specs.declared.progress.Outcome.TheVariants.{Done, Paused, NoInverse}
-use Rattle.command_line.specs.Requests.{Request, Sum, run, resume, make, soak}
-use Rattle.locus_core.specs.Words.{AsksFor}
-use Rattle.locus_core.specs.Outside.{Change, Unchanged, FilesState, StopperState, HasStopped, Holds}
-use Rattle.locus_core.specs.Begins.{Beginning, Begins, by_run, by_resume, by_soak, of_text, of_state, of_number, plan_of}
-use Rattle.locus_core.specs.Comes.{Comes, Sums, IsAnswer, done, paused, no_inverse, file_of_request}
+use Rattle.command_line.specs.Requests.{Request, Sum, run, resume}
+use Rattle.locus_core.specs.Outside.{Change, StopperState, HasStopped}
+use Rattle.locus_core.specs.Begins.{Beginning, Begins}
+use Rattle.locus_core.specs.Comes.{Sums, IsAnswer, done, paused, no_inverse, file_of_request}
 use Rattle.locus_core.specs.Ends.{Run, Ends, printed, words_refused, problem_refused, read_fault, write_fault, checkpoint_refused, want_of_memory}
-use Rattle.locus_core.specs.Headline.{IsDoneStatus, IsPrintedStatus, AsksOf, NamesBadTrees, HasBadNumber, end_of, IsStatusOf, KnowsItsFile, IsDecided}
-use Rattle.locus_core.proofs.Inversions.{same_request, same_bytes, same_file, told_bytes, run_not_make, begun_by_run, begun_by_resume, begun_by_soak, make_begins_nothing, not_both_read, not_both_states, same_beginning}
-use Rattle.locus_core.proofs.Consequences.{done_is, came, CameBySum, CameByMake, if_told, never}
+use Rattle.locus_core.specs.Headline.{IsDoneStatus, AsksOf, NamesBadTrees, end_of, IsStatusOf, IsDecided}
+use Rattle.locus_core.proofs.Inversions.{same_request, same_bytes, same_file, told_bytes, run_not_make, begun_by_run, begun_by_resume, make_begins_nothing, not_both_read, not_both_states, same_beginning}
+use Rattle.locus_core.proofs.Consequences.{done_is, came, CameBySum, CameByMake, if_told}
 
 pub small_degree : (p : ProblemView) → KeepsRules p → p.shape.degree < 11
 small_degree p rules = let l = limits p.shape.rank p.shape.degree p.shape.marks rules.shape in let m = l.most_degree in omega (arith, m)

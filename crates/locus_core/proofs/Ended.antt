@@ -1,5 +1,5 @@
 -- The steps of a run lead to its ends.
-use Rattle.std.proofs.Common.{◌≡◌, ℕ, List, [], Result, Ok, Err, IfOk, IsErr, codes, refl, sym, ◌∙◌, subst, inl}
+use Rattle.std.proofs.Common.{◌≡◌, ℕ, List, [], Result, Ok, Err, IfOk, IsErr, codes, refl, sym, subst, inl}
 use Rattle.command_line.specs.Requests.{Request}
 use Rattle.lists.specs.declared.memory.NoMemory.{NoMemory}
 use Rattle.problem_toml.specs.declared.error.ProblemError.{ProblemError}
@@ -7,7 +7,7 @@ use Rattle.checkpoint.specs.declared.error.CheckpointError.{CheckpointError}
 use Rattle.locus_core.specs.Texts.{refused_line, refused_checkpoint_line}
 use Rattle.locus_core.specs.declared.work.Refusal.TheVariants as refusal
 use Rattle.locus_core.specs.Words.{AsksFor}
-use Rattle.locus_core.specs.Outside.{Unchanged, Takes, BreaksOff, Tells, Change, SinkState}
+use Rattle.locus_core.specs.Outside.{Unchanged, Tells, Change, SinkState}
 use Rattle.locus_core.specs.Comes.{Comes}
 use Rattle.locus_core.specs.Ends as ends
 use Rattle.locus_core.specs.Ends.{Run, Ends, IsIdle}

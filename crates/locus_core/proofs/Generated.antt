@@ -1,17 +1,16 @@
 -- The generated problem of a number: its first residues, and that its sum never pauses.
-use Rattle.std.proofs.Common.{◌≡◌, ◌≢◌, ℕ, zero, suc, slice_index, ◌+◌, ◌^◌, ◌<◌, ◌≤◌, List, [], ◌∷◌, replicate, ◌++◌, Option, None, IsSome, IfSome, refl, sym, ap, ◌∙◌, subst, arith, ⊎_elim, min}
-use Rattle.std.proofs.lemmas.Bool.{cases_lt}
+use Rattle.std.proofs.Common.{◌≡◌, ℕ, zero, suc, slice_index, ◌^◌, ◌<◌, List, [], ◌∷◌, replicate, ◌++◌, refl, sym, ap, ◌∙◌, subst, arith}
 use Rattle.localisation.specs.Agreement.{modulus_at}
 use Rattle.problem.specs.Rules.{ProblemView, KeepsRules}
-use Rattle.problem.specs.Sums.{places_of, count_of}
+use Rattle.problem.specs.Sums.{places_of}
 use Rattle.problem_toml.specs.Generator.{generated_problem}
 use Rattle.checkpoint.specs.States.{AreResidues}
-use Rattle.rounds.specs.Outcomes.{SumView, IsProgress, IsEarly, IsOutcome}
+use Rattle.rounds.specs.Outcomes.{IsProgress, IsEarly, IsOutcome}
 use Rattle.rounds.specs.declared.progress.Progress.{Progress}
 use Rattle.rounds.specs.declared.progress.Outcome.{Outcome}
 use Rattle.rounds.specs.declared.progress.Outcome.TheVariants.{Done, Paused, NoInverse}
 use Rattle.locus_io.specs.Causes.{Stayed}
-use Rattle.locus_core.specs.Outside.{Change, Unchanged, StopperState, HasStopped}
+use Rattle.locus_core.specs.Outside.{Change, StopperState}
 use Rattle.locus_core.specs.Begins.{fresh_sum, of_number}
 use Rattle.locus_core.specs.Steps.{Continues, IsEnd, IsReportOf}
 use Rattle.locus_core.proofs.Reported.{stayed, headed}

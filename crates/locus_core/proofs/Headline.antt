@@ -1,33 +1,30 @@
 -- What was printed of a sum, whose shares, and which bytes: read off from how the run ended.
-use Rattle.std.proofs.Common.{◌≡◌, ◌≢◌, ◌⊎◌, ℕ, inl, inr, ◌+◌, ◌*◌, ◌<◌, ◌≤◌, min, true, List, [], ◌++◌, Option, Some, None, Ok, IsSome, IfSome, refl, sym, ap, ◌∙◌, subst, arith, ⊎_elim}
+use Rattle.std.proofs.Common.{◌≡◌, ◌⊎◌, ℕ, inl, inr, ◌+◌, ◌<◌, ◌≤◌, true, List, [], Some, Ok, refl, sym, subst, arith, ⊎_elim}
 use Rattle.std.proofs.lemmas.Bool.{cases_lt}
-use Rattle.recover_fraction.specs.declared.recovery.Fraction.{Fraction}
 use Rattle.trees.specs.Decorated.{DecoratedTree, all_trees}
 use Rattle.lists.specs.Members.{IsIn}
 use Rattle.trees.specs.TreeNumbers.{number_of}
 use Rattle.trees.proofs.TreeNumbers.{tree_of_in_all_trees}
-use Rattle.localisation.specs.Agreement.{NoneBad, IsLeastBad, IsFirstBad}
+use Rattle.localisation.specs.Agreement.{IsLeastBad, IsFirstBad}
 use Rattle.localisation.proofs.AllNumbers.{bad_number_of, none_append}
-use Rattle.locus_io.specs.Causes.{Rose}
 use Rattle.problem.specs.Rules.{ProblemView, KeepsRules}
 use Rattle.problem.specs.Sums.{count_of, is_bad_of, is_bad_modulo, is_bad_tree_of}
 use Rattle.problem_toml.specs.Reading.{reading}
-use Rattle.checkpoint.specs.States.{StateView, IsState, IsTrueState}
 use Rattle.checkpoint.proofs.FirstStates.{first_is_true}
 use Rattle.report.specs.Outcome as outcome
 use Rattle.report.proofs.Sums.{sums_found}
 use Rattle.rounds.specs.Rounds.{budget_end, reached}
-use Rattle.rounds.specs.Outcomes.{SumView, IsDone, IsPaused, IsNoInverse, IsEarly, IsTrueSum}
+use Rattle.rounds.specs.Outcomes.{SumView, IsDone, IsPaused, IsNoInverse, IsTrueSum}
 use Rattle.rounds.specs.declared.progress.Outcome.{Outcome}
-use Rattle.rounds.specs.declared.progress.Outcome.TheVariants.{Done, Paused, NoInverse}
+use Rattle.rounds.specs.declared.progress.Outcome.TheVariants.{Done, Paused}
 use Rattle.rounds.proofs.Running.{keeps_truth}
-use Rattle.command_line.specs.Requests.{Request, Sum, run, resume, make, soak}
+use Rattle.command_line.specs.Requests.{Request}
 use Rattle.locus_core.specs.Words.{AsksFor}
-use Rattle.locus_core.specs.Outside.{Change, Unchanged, FilesState, StopperState, Takes, BreaksOff}
-use Rattle.locus_core.specs.Begins.{Beginning, Begins, by_run, by_resume, by_soak, fresh_sum, IsTrueBeginning}
-use Rattle.locus_core.specs.Comes.{Comes, Sums, IsAnswer, done, paused, no_inverse, state_at}
+use Rattle.locus_core.specs.Outside.{Change, FilesState, Takes}
+use Rattle.locus_core.specs.Begins.{Beginning, Begins, by_run, by_resume, by_soak, IsTrueBeginning}
+use Rattle.locus_core.specs.Comes.{Comes, Sums, IsAnswer, done, paused, no_inverse}
 use Rattle.locus_core.specs.Ends.{Run, Ends, printed, words_refused, problem_refused, read_fault, write_fault, checkpoint_refused, want_of_memory}
-use Rattle.locus_core.specs.Headline.{IsDoneStatus, IsPrintedStatus, HasBegun, PrintsSums, NamesLeast, PrintsCheckpoint, SharesBlocks, AsksNoText, IsRefusedStatus, ClaimsBlocks, WritesBytes, end_of}
+use Rattle.locus_core.specs.Headline.{IsDoneStatus, IsPrintedStatus, PrintsSums, NamesLeast, PrintsCheckpoint, SharesBlocks, AsksNoText, IsRefusedStatus, ClaimsBlocks, WritesBytes}
 use Rattle.locus_core.proofs.Consequences.{done_is, came, came_printed, CameBySum, CameByMake, never}
 use Rattle.locus_core.proofs.Decided.{small_degree, below_count, paused_end}
 

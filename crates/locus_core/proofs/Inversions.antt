@@ -1,5 +1,5 @@
 -- What is known of a sum that began: by its request, and by what its file holds.
-use Rattle.std.proofs.Common.{◌≡◌, ℕ, List, [], Option, Some, None, Result, Ok, Err, IfSome, IsSome, refl, sym, ap, ap₂, ◌∙◌, subst, ◌⊎◌, inl, inr}
+use Rattle.std.proofs.Common.{◌≡◌, ℕ, List, Option, Some, None, Ok, Err, IfSome, IsSome, refl, sym, ap, ap₂, ◌∙◌, subst, ◌⊎◌, inl, inr}
 use Rattle.std.proofs.lemmas.Bool.{false≢true}
 use Rattle.std.proofs.lemmas.Option.{same_Some}
 use Rattle.locus_io.specs.Content.{NamedFiles, file_of}
@@ -9,7 +9,6 @@ use Rattle.problem_toml.specs.declared.error.ProblemError.{ProblemError}
 use Rattle.checkpoint.specs.States.{StateView, IsState}
 use Rattle.checkpoint.specs.Texts.{IsTextOf}
 use Rattle.checkpoint.specs.Refusals.{IsRefusal}
-use Rattle.checkpoint.specs.Readers.{checkpoint_reading}
 use Rattle.checkpoint.specs.declared.error.CheckpointError.{CheckpointError}
 use Rattle.checkpoint.proofs.ReadingLaws.{state_is_read, refusal_is_read}
 use Rattle.command_line.specs.Requests.{Request, Sum, run, resume, make, soak}
@@ -20,7 +19,6 @@ use Rattle.locus_core.specs.Outside.{Change, FilesState, Holds}
 use Rattle.locus_core.specs.Begins.{Beginning, Begins, by_run, by_resume, by_soak, of_text, of_state, of_number, plan_of}
 use Rattle.locus_core.specs.Comes.{file_of_request}
 use Rattle.locus_core.specs.Ends.{Run}
-use Rattle.locus_core.specs.Headline.{AsksOf}
 
 -- the words ask for one thing
 pub same_request : (r : Run) (a b : Request) → AsksFor r.words a → AsksFor r.words b → a ≡ b

@@ -1,5 +1,5 @@
 -- What is loaded of a file is the file, or both are too long: so both are read as the same.
-use Rattle.std.proofs.Common.{◌≡◌, ℕ, suc, ◌<◌, ◌≤◌, Bool, true, nat_lt, List, take, length, Option, Some, None, Result, Ok, Err, IfSome, option_map, refl, sym, ap, ◌∙◌, subst, arith, if◌then◌else◌, ⊎_elim, ◌⊎◌, inl, inr, length-take}
+use Rattle.std.proofs.Common.{◌≡◌, ℕ, suc, ◌<◌, ◌≤◌, Bool, true, nat_lt, List, length, Option, Some, None, Ok, Err, IfSome, option_map, refl, sym, ap, ◌∙◌, subst, arith, if◌then◌else◌, ⊎_elim, ◌⊎◌, inl, inr, length-take}
 use Rattle.std.proofs.lemmas.Bool.{cases_lt}
 use Rattle.std.proofs.lemmas.Bool.Decides.{nat_tests}
 use Rattle.std.proofs.lemmas.List.{take_all}

@@ -1,11 +1,11 @@
 -- What is printed of an outcome is its answer: the texts of reports and checkpoints, one by one.
-use Rattle.std.proofs.Common.{◌≡◌, ℕ, List, [], ◌++◌, Option, Some, None, option_map, Result, Ok, Err, IfOk, IsSome, IfSome, refl, sym, subst, ap, ◌∙◌}
+use Rattle.std.proofs.Common.{◌≡◌, ℕ, List, ◌++◌, Option, Some, None, option_map, Result, Ok, Err, IfOk, IsSome, IfSome, refl, sym, subst, ap, ◌∙◌}
 use Rattle.locus_io.specs.Causes.{Stayed}
 use Rattle.problem.specs.Rules.{ProblemView, KeepsRules}
 use Rattle.checkpoint.specs.States.{StateView}
 use Rattle.checkpoint.specs.Texts.{text_in}
 use Rattle.report.specs.Report.{IsDoneReport, done_status}
-use Rattle.report.specs.Texts.{done_text, no_inverse_text}
+use Rattle.report.specs.Texts.{no_inverse_text}
 use Rattle.report.specs.declared.report.Report.{Report}
 use Rattle.lists.specs.declared.memory.NoMemory.{NoMemory}
 use Rattle.rounds.specs.Outcomes.{sum_of, IsProgress, IsEarly}
@@ -13,7 +13,7 @@ use Rattle.rounds.specs.declared.progress.Progress.{Progress}
 use Rattle.rounds.specs.declared.progress.Outcome.{Outcome}
 use Rattle.rounds.specs.declared.progress.Outcome.TheVariants.{Done, Paused, NoInverse}
 use Rattle.locus_core.specs.Begins.{Beginning, Plan, of_state}
-use Rattle.locus_core.specs.Comes.{IsAnswer, done, paused, no_inverse, state_at}
+use Rattle.locus_core.specs.Comes.{IsAnswer, done, paused, no_inverse}
 use Rattle.locus_core.specs.Outside.{Change, Unchanged, StopperState, HasStopped}
 use Rattle.locus_core.specs.Steps.{IsReportOf, Continues}
 

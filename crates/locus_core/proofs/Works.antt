@@ -1,8 +1,8 @@
 -- What rounds come to is what a request comes to, by how the sum began.
-use Rattle.std.proofs.Common.{◌≡◌, ◌≢◌, ℕ, ◌+◌, ◌<◌, ◌≤◌, List, [], Option, Some, None, Result, Ok, Err, IsSome, IfSome, IfOk, OnErr, refl, sym, ap, ◌∙◌, subst, ◌⊎◌, inl, inr, ⊎_elim, arith}
+use Rattle.std.proofs.Common.{◌≡◌, ℕ, List, [], Result, Ok, Err, IfOk, OnErr, refl, sym, ap, ◌∙◌, subst, inl}
 use Rattle.std.proofs.lemmas.Result.{IfOk-weaker}
 use Rattle.command_line.specs.Requests.{Request, Sum, run, resume, make, soak}
-use Rattle.problem.specs.Rules.{ProblemView, KeepsRules}
+use Rattle.problem.specs.Rules.{ProblemView}
 use Rattle.problem_toml.specs.Generator.{generated_problem}
 use Rattle.problem_toml.specs.Reading.{reading, reading_of_any_length}
 use Rattle.problem_toml.specs.declared.error.ProblemError.{ProblemError}
@@ -10,11 +10,8 @@ use Rattle.checkpoint.specs.States.{StateView, IsState, first_state, fresh_of}
 use Rattle.checkpoint.specs.Texts.{IsTextOf}
 use Rattle.checkpoint.specs.Refusals.{IsRefusal}
 use Rattle.checkpoint.specs.declared.error.CheckpointError.{CheckpointError}
-use Rattle.rounds.specs.Outcomes.{SumView, IsEarly}
-use Rattle.rounds.specs.declared.progress.Outcome.{Outcome}
-use Rattle.rounds.specs.declared.progress.Outcome.TheVariants.{Done, Paused, NoInverse}
-use Rattle.locus_core.specs.Outside.{Change, Unchanged, FilesState, StopperState, Holds, HasStopped}
-use Rattle.locus_core.specs.Begins.{Beginning, by_run, by_resume, by_soak, of_state, of_text, of_number, plan_of}
+use Rattle.locus_core.specs.Outside.{Change, Unchanged, FilesState, StopperState}
+use Rattle.locus_core.specs.Begins.{by_run, by_resume, by_soak, of_state, of_text, of_number, plan_of}
 use Rattle.locus_core.specs.Comes.{Comes, summed, made, MayHaveStopped}
 use Rattle.locus_core.specs.declared.work.Printable.{Printable}
 use Rattle.locus_core.specs.declared.work.Refusal.{Refusal}

@@ -1,5 +1,5 @@
 -- What is asked for comes to.
-use Rattle.std.specs.Prelude.{◌≡◌, ◌≢◌, ◌⊎◌, ℕ, List, [], ◌++◌, Option, Some, None, Ok, IsSome, IfSome}
+use Rattle.std.specs.Prelude.{◌≡◌, ◌⊎◌, ℕ, List, [], ◌++◌, Option, Some, None, Ok, IsSome, IfSome}
 use Rattle.recover_fraction.specs.declared.recovery.Fraction.{Fraction}
 use Rattle.problem.specs.Rules.{KeepsRules}
 use Rattle.problem_toml.specs.Generator.{generated_problem}
@@ -12,7 +12,7 @@ use Rattle.report.specs.Texts.{done_text, no_inverse_text}
 use Rattle.rounds.specs.Outcomes.{IsProgress, IsEarly}
 use Rattle.rounds.specs.declared.progress.Outcome.{Outcome}
 use Rattle.rounds.specs.declared.progress.Outcome.TheVariants.{Done, Paused, NoInverse}
-use Rattle.command_line.specs.Requests.{Request, Sum, run, resume, make}
+use Rattle.command_line.specs.Requests.{Request, run, resume, make}
 use Rattle.locus_core.specs.Outside.{Change, Unchanged, FilesState, StopperState, HasStopped}
 use Rattle.locus_core.specs.Begins.{Beginning, Begins}
 

@@ -1,5 +1,5 @@
 -- How a run ends.
-use Rattle.std.specs.Prelude.{◌≡◌, ℕ, List, [], Option, Some, Err, codes}
+use Rattle.std.specs.Prelude.{◌≡◌, ℕ, List, [], Some, Err, codes}
 use Rattle.problem_toml.specs.Reading.{reading}
 use Rattle.problem_toml.specs.declared.error.ProblemError.{ProblemError}
 use Rattle.checkpoint.specs.Refusals.{IsRefusal}

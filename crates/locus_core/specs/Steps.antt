@@ -1,7 +1,7 @@
 -- The steps of a run.
-use Rattle.std.specs.Prelude.{◌≡◌, ◌≢◌, ℕ, suc, List, take, Option, Some, None, Result, Ok, Err, IfSome, IsSome, option_map, codes}
+use Rattle.std.specs.Prelude.{◌≡◌, ℕ, suc, List, take, Some, Result, Ok, Err, IfSome, option_map, codes}
 use Rattle.command_words.specs.Words.{AreRefusedFirst}
-use Rattle.command_line.specs.Requests.{Request, Sum, run, resume, make, soak}
+use Rattle.command_line.specs.Requests.{Request, Sum, run, resume}
 use Rattle.locus_io.specs.Content.{file_of}
 use Rattle.problem_toml.specs.Reading.{reading}
 use Rattle.problem_toml.specs.declared.error.ProblemError.{ProblemError}
