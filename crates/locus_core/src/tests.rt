@@ -4,7 +4,7 @@ use crate::locus;
 use crate::tests::cases::{
     CHANGED_DIGEST, CONICS, CUBIC_SUM, CUBICS, CURVE_SUMS, DIGEST, DIGEST_OF_VERSION_1,
     INTEGRAL_SUMS, LINE_SUMS, MARKED, NO_INVERSES, PSI_SUMS, QUARTIC_SUM, QUARTICS, REFUSALS,
-    REFUSED_FIRST, REFUSED_WORDS, SHARES,
+    REFUSED_FIRST, REFUSED_WORDS, SHARES, SHORTER_DIGEST,
 };
 use locus_io::{MemoryFiles, MemorySink, OpenGate, ScriptedStopper};
 use std::alloc::Global;
@@ -376,8 +376,8 @@ fn refused_checkpoints_name_the_rule(rt: HostRuntime) -> Result<(), Fail> {
     assert_eq!(rt; found.shares, (0, 0));
     let whole = checkpoint(alloc, 2, 90, DIGEST)?;
     let longer = format!(in alloc; "{whole}\n")?;
-    let (cut, _) = whole.as_str().split_at(298);
-    for text in ["", "locus", CONICS, cut, longer.as_str()] {
+    let shorter = checkpoint(alloc, 2, 90, SHORTER_DIGEST)?;
+    for text in ["", "locus", CONICS, shorter.as_str(), longer.as_str()] {
         let found = run(&rt, alloc, &words, text)?;
         assert_eq!(rt; found.as_str(), "8 |checkpoint refused 2 NotCheckpoint\n");
     }

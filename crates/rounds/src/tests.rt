@@ -13,9 +13,6 @@ use std::alloc::Global;
 use std::test::Fail;
 use std::thread::Threads;
 
-mod ends;
-mod threads;
-
 // The covers of degree 2 of a line, of which there are 8 trees. Their sum is 1/8, with the residues 38 and 876.
 const COVERS: &str = "version = 1\nrank = 1\ndegree = 2\nweights = [1, 3]\nmoduli = [101, 1001]\n\
     numerator_bound = 100\ndenominator_bound = 100\n\n[[term]]\nclasses = [{ kind = \"r1\", k = 1, power = 2 }]\n";
@@ -157,36 +154,29 @@ fn a_bad_tree_among_the_cubics(rt: HostRuntime) -> Result<(), Fail> {
     Ok(())
 }
 
-// The quartics have three rounds, of 65,536, 65,536 and 45,028 trees.
-#[test]
-fn quartics_on_the_quintic(rt: HostRuntime) -> Result<(), Fail> {
-    let alloc = rt.alloc();
-    let state = state(alloc, quintic(alloc, 4)?.as_str())?;
-    for workers in [1, 2, 7, 64] {
-        let progress = go_on(&rt, alloc, &state, 1 << 40, workers)?;
-        assert_eq!(rt; told(alloc, &progress.outcome)?.as_str(), QUARTICS);
-        assert_eq!(rt; shares_of(&progress), (workers as usize, 1024 + 1024 + 704));
-    }
-    Ok(())
-}
-
-// So a stopper is asked after the first and the second, but not where the budget is used up.
+// The quartics have three rounds, so a stopper is asked after the first and the second.
 #[test]
 fn a_stopper_is_asked_after_each_round_but_the_last(rt: HostRuntime) -> Result<(), Fail> {
     let alloc = rt.alloc();
     let state = state(alloc, quintic(alloc, 4)?.as_str())?;
-    let cases: [(&[bool], Option<&str>, u64, &str, u64); 7] = [
-        (&[true], Some("s"), 1 << 40, "paused 65536 ", 1),
-        (&[false, true], Some("s"), 1 << 40, "paused 131072 ", 2),
-        (&[false, false], Some("s"), 1 << 40, QUARTICS, 2),
-        (&[true], None, 1 << 40, QUARTICS, 0),
-        (&[true], Some("s"), 65_536, "paused 65536 ", 0),
-        (&[true], Some("s"), 65_537, "paused 65536 ", 1),
-        (&[false, true], Some("s"), 131_072, "paused 131072 ", 1),
+    let cases: [(&[bool], Option<&str>, &str, u64); 4] = [
+        (&[true], Some("s"), "paused 65536", 1),
+        (&[false, true], Some("s"), "paused 131072", 2),
+        (&[false, false], Some("s"), QUARTICS, 2),
+        (&[true], None, QUARTICS, 0),
     ];
-    for (answers, name, budget, wanted, asked) in cases {
+    for (answers, name, wanted, asked) in cases {
         let mut stopper = ScriptedStopper::new(Vec::from_slice(alloc, answers)?);
-        let progress = advance(&rt, alloc, &state, budget, 3, name, &OpenGate, &mut stopper);
+        let progress = advance(
+            &rt,
+            alloc,
+            &state,
+            1 << 40,
+            3,
+            name,
+            &OpenGate,
+            &mut stopper,
+        );
         let progress = progress.ok().ok_or("no memory")?;
         let text = told(alloc, &progress.outcome)?;
         assert!(rt;
@@ -291,20 +281,10 @@ fn twisted_cubics_in_short_calls(rt: HostRuntime) -> Result<(), Fail> {
 fn quartics_in_calls_of_about_a_round(rt: HostRuntime) -> Result<(), Fail> {
     let alloc = rt.alloc();
     let text = quintic(alloc, 4)?;
-    for (budget, blocks) in [(65_535, 2752), (65_536, 2752), (65_537, 2754)] {
-        for workers in [1, 2, 7, 64] {
-            let ended = chain(&rt, alloc, text.as_str(), budget, workers)?;
-            assert_eq!(rt;
-                ended.0.as_str(),
-                QUARTICS,
-                "budget {budget}, {workers} workers"
-            );
-            assert_eq!(rt;
-                (ended.1, ended.2),
-                (3, blocks),
-                "budget {budget}, {workers} workers"
-            );
-        }
+    for (budget, workers, blocks) in [(65_535, 1, 2752), (65_536, 2, 2752), (65_537, 7, 2754)] {
+        let ended = chain(&rt, alloc, text.as_str(), budget, workers)?;
+        assert_eq!(rt; ended.0.as_str(), QUARTICS, "budget {budget}");
+        assert_eq!(rt; (ended.1, ended.2), (3, blocks), "budget {budget}");
     }
     Ok(())
 }

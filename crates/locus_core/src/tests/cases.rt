@@ -354,6 +354,9 @@ pub const SHARES: [(&[&str], &str, &str, (usize, u64)); 6] = [
 // version 2 with 91 in place of 90.
 pub const DIGEST: &str = "a7bd2318184b6f94e9c1099d3dfccbb36e436f91ba5cc7aee076a56099504b35";
 
+// The same without its last digit.
+pub const SHORTER_DIGEST: &str = "a7bd2318184b6f94e9c1099d3dfccbb36e436f91ba5cc7aee076a56099504b3";
+
 pub const DIGEST_OF_VERSION_1: &str =
     "4626e88ddba7b562312ec8754b21e32d080fc0698b25fb199341d794f130ba80";
 
