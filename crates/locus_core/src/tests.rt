@@ -322,7 +322,7 @@ fn each_worker_has_a_share(rt: HostRuntime) -> Result<(), Fail> {
     for (words, text, wanted, shares) in SHARES {
         let found = outcome(&rt, alloc, words, &sound(text))?;
         assert_eq!(rt; found.told(alloc)?.as_str(), wanted);
-        assert_eq!(rt; found.shares, shares, "{wanted}");
+        assert_eq!(rt; found.shares, shares);
     }
     Ok(())
 }
