@@ -181,11 +181,7 @@ text_words [] passes = tt
 text_words (w ∷ ws) passes = are_words ws passes
 
 simple : (program : Text) (table : List Usage) → is_simple (app_for program table) ≡ true
-simple program table = first (is_simple (app_for program table)) _ (is_free program table)
-  where
-    first : (a b : Bool) → (a && b) ≡ true → a ≡ true
-    first true b e = refl
-    first false b e = e
+simple program table = (and_both (is_simple (app_for program table)) _ (is_free program table)).0
 
 -- ---- the answers
 

@@ -16,7 +16,7 @@ use Rattle.command_words.specs.Rows.{has_name}
 use Rattle.command_words.proofs.Items.{Items, Rest, more}
 use Rattle.command_words.proofs.Args.{Arg, rule_at, place_after}
 use Rattle.command_words.proofs.Rows.{Given, empty, passes}
-use Rattle.command_words.proofs.Bools.{and_false}
+use Rattle.command_words.proofs.Bools.{and_false, and_both, not_true}
 
 -- a command with these arguments, as it is built below the one that has the table
 abbrev pub leaf : Text → List Arg → Shape
@@ -68,16 +68,8 @@ pub from_rest : (name : Text) (rest : Rest) (is : List Item) (P : List Item → 
 from_rest name None is P e h = cc
 from_rest name (Some r) is P e h = subst P (same_Some (option name r.0 ∷ r.1) is e) (h r refl)
 
-and_true_left : (a b : Bool) → (a && b) ≡ true → a ≡ true
-and_true_left true b e = refl
-and_true_left false b e = e
-
 pub not_given : (a : Arg) (x : Text) (given : Given) → passes a x given ≡ true → has_name a.id given ≡ false
-not_given a x given e = tested (has_name a.id given) (and_true_left (not (has_name a.id given)) _ e)
-  where
-    tested : (b : Bool) → not b ≡ true → b ≡ false
-    tested true e = absurd (false≢true e)
-    tested false e = refl
+not_given a x given e = not_true (has_name a.id given) (and_both (not (has_name a.id given)) _ e).0
 
 pub or_else_assoc : (a b c : Kinds) → or_else (or_else a b) c ≡ or_else a (or_else b c)
 or_else_assoc [] b c = refl

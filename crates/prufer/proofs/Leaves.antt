@@ -6,6 +6,7 @@ use Rattle.std.proofs.lemmas.Bool.{cases_eq}
 use Rattle.std.proofs.lemmas.Bool.Decides.{nat_tests}
 use Rattle.lists.specs.Ranges.{below}
 use Rattle.lists.specs.Members.{is_member, without}
+use Rattle.trees.proofs.FirstOrLater.{past_first}
 use Rattle.trees.specs.Words.{first_leaf, first_end, degree_of}
 use Rattle.lists.proofs.Different.{member_head, member_tail, member_of_without, member-below}
 
@@ -43,10 +44,7 @@ ascending-below zero = tt
 ascending-below (suc n) = ascending-push (below n) n (ascending-below n) (λ x m. ltb-true x n (sym (member-below x n) ∙ m))
 
 other_member : (v k : ℕ) (vs : List ℕ) → is_member k (v ∷ vs) ≡ true → (v ≡ k → ⊥) → is_member k vs ≡ true
-other_member v k vs m ne = pick v k (is_member k vs) m ne
-  where
-    pick : (v k : ℕ) (b : Bool) → ((v == k) || b) ≡ true → (v ≡ k → ⊥) → b ≡ true
-    pick v k b m ne = grind (arith, nat_tests)
+other_member v k vs m ne = past_first v k (is_member k vs) m ne
 
 -- the first leaf of a word is the vertex that is no letter, while all smaller ones are letters
 pub first_leaf_at : (vs ws : List ℕ) (k : ℕ) → IsAscending vs → is_member k vs ≡ true → is_member k ws ≡ false

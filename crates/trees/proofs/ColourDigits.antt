@@ -6,6 +6,7 @@ use Rattle.std.proofs.lemmas.Bool.Decides.{nat_tests}
 use Rattle.lists.specs.Members.{is_member, IsIn}
 use Rattle.trees.specs.Walks.{lifted, place_of, IsWalk, coloured, Follows, digits_of}
 use Rattle.lists.proofs.Members.{nothing_in, in_cons}
+use Rattle.trees.proofs.FirstOrLater.{at_first, later, past_first}
 use Rattle.trees.proofs.WalkLaws.{place-lifted, lifted_apart, place_below, lifted_below, Within, is_walked, Differs, coloured_keeps, coloured_follows, follows_once, digits_keep, digits_follow}
 use Rattle.trees.proofs.WalkedEdges.{IsTreeWalk, AlongEdges, step_edge}
 
@@ -38,10 +39,6 @@ length-digits_of (s ∷ walk) cs ds =
     length-digits_of walk cs (set ds s.0 x) ∙ length-set ds s.0 x
 
 -- ---- along a walk
--- either the vertex of the step or a later one
-step_or_later : (x v : ℕ) (b : Bool) → ((x == v) || b) ≡ true → (x ≡ v → ⊥) → b ≡ true
-step_or_later x v b h ne = grind (arith, nat_tests)
-
 colours_within : (walk : List (ℕ × ℕ)) (before ds cs : List ℕ) (r : ℕ) → IsWalk walk before → Follows walk ds cs
     → ((v : ℕ) → is_member v before ≡ true → get_or cs v 0 ≤ r) → ((v : ℕ) → is_walked v walk ≡ true → get_or ds v 0 < r)
     → (v : ℕ) → is_walked v walk ≡ true → get_or cs v 0 ≤ r
@@ -50,17 +47,11 @@ colours_within (s ∷ walk) before ds cs r w f old digit v m =
     let here : get_or cs s.0 0 ≤ r =
     subst (λ z. z ≤ r) (sym f.0) (lifted_below (get_or ds s.0 0) (get_or cs s.1 0) r (digit s.0 (at_first s.0 (is_walked s.0 walk))) (old s.1 w.1)) in
     ⊎_elim (λ e. subst (λ z. get_or cs z 0 ≤ r) e here)
-    (λ ne. colours_within walk (s.0 ∷ before) ds cs r w.2 f.1 (grown here) (λ u h. digit u (later s.0 u (is_walked u walk) h)) v (step_or_later s.0 v (is_walked v walk) m ne))
+    (λ ne. colours_within walk (s.0 ∷ before) ds cs r w.2 f.1 (grown here) (λ u h. digit u (later s.0 u (is_walked u walk) h)) v (past_first s.0 v (is_walked v walk) m ne))
     (cases_eq s.0 v)
   where
-    at_first : (x : ℕ) (b : Bool) → ((x == x) || b) ≡ true
-    at_first x b = grind arith
-
-    later : (x u : ℕ) (b : Bool) → b ≡ true → ((x == u) || b) ≡ true
-    later x u b h = grind arith
-
     grown : get_or cs s.0 0 ≤ r → (u : ℕ) → is_member u (s.0 ∷ before) ≡ true → get_or cs u 0 ≤ r
-    grown here u h = ⊎_elim (λ e. subst (λ z. get_or cs z 0 ≤ r) e here) (λ ne. old u (step_or_later s.0 u (is_member u before) h ne)) (cases_eq s.0 u)
+    grown here u h = ⊎_elim (λ e. subst (λ z. get_or cs z 0 ≤ r) e here) (λ ne. old u (past_first s.0 u (is_member u before) h ne)) (cases_eq s.0 u)
 
 -- colours are followed by one list of digits only
 digits_once : (walk : List (ℕ × ℕ)) (xs ys cs : List ℕ) → Follows walk xs cs → Follows walk ys cs → (v : ℕ) → is_walked v walk ≡ true → get_or xs v 0 ≡ get_or ys v 0
@@ -69,7 +60,7 @@ digits_once (s ∷ walk) xs ys cs f g v h =
     let c = get_or cs s.1 0 in
     let here : get_or xs s.0 0 ≡ get_or ys s.0 0 =
     sym (place-lifted (get_or xs s.0 0) c) ∙ ap (λ z. place_of z c) (sym f.0 ∙ g.0) ∙ place-lifted (get_or ys s.0 0) c in
-    ⊎_elim (λ e. subst (λ z. get_or xs z 0 ≡ get_or ys z 0) e here) (λ ne. digits_once walk xs ys cs f.1 g.1 v (step_or_later s.0 v (is_walked v walk) h ne)) (cases_eq s.0 v)
+    ⊎_elim (λ e. subst (λ z. get_or xs z 0 ≡ get_or ys z 0) e here) (λ ne. digits_once walk xs ys cs f.1 g.1 v (past_first s.0 v (is_walked v walk) h ne)) (cases_eq s.0 v)
 
 follows_differs : (walk : List (ℕ × ℕ)) (ds cs : List ℕ) → Follows walk ds cs → Differs walk cs
 follows_differs [] ds cs f = tt
@@ -87,17 +78,11 @@ digits_below (s ∷ walk) before ds cs r f colour w old v m =
     let here : get_or ds s.0 0 < r =
     subst (λ z. z < r) (sym digit) (place_below x c r (λ e. lifted_apart (get_or ds s.0 0) c (sym f.0 ∙ e)) own (old s.1 w.1)) in
     ⊎_elim (λ e. subst (λ z. get_or ds z 0 < r) e here)
-    (λ ne. digits_below walk (s.0 ∷ before) ds cs r f.1 (λ u h. colour u (later s.0 u (is_walked u walk) h)) w.2 (grown own) v (step_or_later s.0 v (is_walked v walk) m ne))
+    (λ ne. digits_below walk (s.0 ∷ before) ds cs r f.1 (λ u h. colour u (later s.0 u (is_walked u walk) h)) w.2 (grown own) v (past_first s.0 v (is_walked v walk) m ne))
     (cases_eq s.0 v)
   where
-    at_first : (x : ℕ) (b : Bool) → ((x == x) || b) ≡ true
-    at_first x b = grind arith
-
-    later : (x u : ℕ) (b : Bool) → b ≡ true → ((x == u) || b) ≡ true
-    later x u b h = grind arith
-
     grown : get_or cs s.0 0 ≤ r → (u : ℕ) → is_member u (s.0 ∷ before) ≡ true → get_or cs u 0 ≤ r
-    grown here u h = ⊎_elim (λ e. subst (λ z. get_or cs z 0 ≤ r) e here) (λ ne. old u (step_or_later s.0 u (is_member u before) h ne)) (cases_eq s.0 u)
+    grown here u h = ⊎_elim (λ e. subst (λ z. get_or cs z 0 ≤ r) e here) (λ ne. old u (past_first s.0 u (is_member u before) h ne)) (cases_eq s.0 u)
 
 -- ---- along edges
 edge_differs : (walk : List (ℕ × ℕ)) (cs : List ℕ) (e : ℕ × ℕ) → Differs walk cs → IsIn e (map step_edge walk) → EndsApart cs e
@@ -129,19 +114,16 @@ walked_apart : (walk : List (ℕ × ℕ)) (before : List ℕ) (u v : ℕ) → Is
 walked_apart [] before u v w p m = cc
 walked_apart (s ∷ walk) before u v w p m = λ e.
     ⊎_elim (λ same. absurd (let x : is_member u before ≡ is_member s.0 before = ap (λ z. is_member z before) (e ∙ sym same) in let y = w.0 in clash p x y))
-    (λ ne. walked_apart walk (s.0 ∷ before) u v w.2 (later s.0 u (is_member u before) p) (step_or_later s.0 v (is_walked v walk) m ne) e)
+    (λ ne. walked_apart walk (s.0 ∷ before) u v w.2 (later s.0 u (is_member u before) p) (past_first s.0 v (is_walked v walk) m ne) e)
     (cases_eq s.0 v)
   where
     clash : {a b : Bool} → a ≡ true → a ≡ b → b ≡ false → ⊥
     clash h k l = let x : true ≡ false = sym h ∙ k ∙ l in cc
 
-    later : (x u : ℕ) (b : Bool) → b ≡ true → ((x == u) || b) ≡ true
-    later x u b h = grind arith
-
 walked_below : (n : ℕ) (walk : List (ℕ × ℕ)) (v : ℕ) → Within walk n → is_walked v walk ≡ true → v < n
 walked_below n [] v w m = cc
 walked_below n (s ∷ walk) v w m =
-    ⊎_elim (λ e. subst (λ z. z < n) e w.0) (λ ne. walked_below n walk v w.1 (step_or_later s.0 v (is_walked v walk) m ne)) (cases_eq s.0 v)
+    ⊎_elim (λ e. subst (λ z. z < n) e w.0) (λ ne. walked_below n walk v w.1 (past_first s.0 v (is_walked v walk) m ne)) (cases_eq s.0 v)
 
 module _ (n r : ℕ) (es walk : List (ℕ × ℕ)) (some : 0 < n) (t : IsTreeWalk n es walk) where
   at_zero : (P : ℕ → Type 0) → P 0 → (v : ℕ) → is_member v (0 ∷ []) ≡ true → P v

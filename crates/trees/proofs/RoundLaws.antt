@@ -6,6 +6,7 @@ use Rattle.trees.specs.Edges.{joined_by, reached_in}
 use Rattle.lists.proofs.Members.{nothing_in, in_cons, from_append, from_flat_map, ComesFrom}
 use Rattle.lists.proofs.Different.{member_in}
 use Rattle.trees.specs.Walks.{IsWalk}
+use Rattle.trees.proofs.FirstOrLater.{at_first, later}
 use Rattle.trees.specs.Walks.{steps_of, after, walk_in}
 
 after-append : (v w : List (ℕ × ℕ)) (before : List ℕ) → after (v ++ w) before ≡ after w (after v before)
@@ -42,10 +43,7 @@ walk_in_walk (suc k) es before =
 -- what was there is there after a walk
 after_keeps : (walk : List (ℕ × ℕ)) (before : List ℕ) (v : ℕ) → is_member v before ≡ true → is_member v (after walk before) ≡ true
 after_keeps [] before v h = h
-after_keeps (s ∷ walk) before v h = after_keeps walk (s.0 ∷ before) v (still s.0 (is_member v before) h)
-  where
-    still : (x : ℕ) (b : Bool) → b ≡ true → ((x == v) || b) ≡ true
-    still x b h = grind arith
+after_keeps (s ∷ walk) before v h = after_keeps walk (s.0 ∷ before) v (later s.0 v (is_member v before) h)
 
 -- an edge with one end there has both ends there afterwards
 both_after : (es : List (ℕ × ℕ)) (before : List ℕ) (e : ℕ × ℕ) → IsIn e es → (is_member e.0 before ≡ true) ⊎ (is_member e.1 before ≡ true)
@@ -55,21 +53,15 @@ both_after (f ∷ es) before e i h =
     cases (is_member f.0 before && not (is_member f.1 before)) (is_member f.1 before && not (is_member f.0 before)) refl refl (in_cons i)
     (λ j. both_after es (f.1 ∷ before) e j (kept f.1)) (λ j. both_after es (f.0 ∷ before) e j (kept f.0)) (λ j. both_after es before e j h)
   where
-    still : (x v : ℕ) (b : Bool) → b ≡ true → ((x == v) || b) ≡ true
-    still x v b h = grind arith
-
-    now : (x : ℕ) (b : Bool) → ((x == x) || b) ≡ true
-    now x b = grind arith
-
     kept : (x : ℕ) → (is_member e.0 (x ∷ before) ≡ true) ⊎ (is_member e.1 (x ∷ before) ≡ true)
-    kept x = ⊎_elim (λ p. inl (still x e.0 (is_member e.0 before) p)) (λ p. inr (still x e.1 (is_member e.1 before) p)) h
+    kept x = ⊎_elim (λ p. inl (later x e.0 (is_member e.0 before) p)) (λ p. inr (later x e.1 (is_member e.1 before) p)) h
 
     neither : (a b : Bool) → (a && not b) ≡ false → (b && not a) ≡ false → (a ≡ true) ⊎ (b ≡ true) → (a ≡ true) × (b ≡ true)
     neither a b p q h = grind arith
 
     there_now : (x y : ℕ) (walk : List (ℕ × ℕ)) → is_member y before ≡ true
         → (is_member y (after walk (x ∷ before)) ≡ true) × (is_member x (after walk (x ∷ before)) ≡ true)
-    there_now x y walk p = (after_keeps walk (x ∷ before) y (still x y (is_member y before) p), after_keeps walk (x ∷ before) x (now x (is_member x before)))
+    there_now x y walk p = (after_keeps walk (x ∷ before) y (later x y (is_member y before) p), after_keeps walk (x ∷ before) x (at_first x (is_member x before)))
 
     cases : (b c : Bool) → (is_member f.0 before && not (is_member f.1 before)) ≡ b → (is_member f.1 before && not (is_member f.0 before)) ≡ c → (e ≡ f) ⊎ IsIn e es
         → (IsIn e es → (is_member e.0 (after (steps_of es (f.1 ∷ before)) (f.1 ∷ before)) ≡ true) × (is_member e.1 (after (steps_of es (f.1 ∷ before)) (f.1 ∷ before)) ≡ true))

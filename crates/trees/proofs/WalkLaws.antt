@@ -4,6 +4,7 @@ use Rattle.std.proofs.lemmas.Bool.{cases_eq}
 use Rattle.std.proofs.lemmas.Bool.Decides.{nat_tests}
 use Rattle.trees.specs.Walks.{lifted, place_of, IsWalk, coloured, Follows, digits_of}
 use Rattle.lists.specs.Members.{is_member}
+use Rattle.trees.proofs.FirstOrLater.{past_first}
 
 pub place-lifted : (x c : ℕ) → place_of (lifted x c) c ≡ x
 place-lifted x c = grind (arith, nat_tests)
@@ -70,15 +71,12 @@ follows_once [] before digits xs ys w a f g v h = cc
 follows_once (s ∷ walk) before digits xs ys w a f g v h =
     let here : get_or xs s.0 0 ≡ get_or ys s.0 0 = f.0 ∙ ap (λ z. lifted (get_or digits s.0 0) z) (a s.1 w.1) ∙ sym g.0 in
     ⊎_elim (λ e. subst (λ z. get_or xs z 0 ≡ get_or ys z 0) e here)
-    (λ ne. follows_once walk (s.0 ∷ before) digits xs ys w.2 (λ u m. grown u here m) f.1 g.1 v (rest s.0 v (is_walked v walk) h ne))
+    (λ ne. follows_once walk (s.0 ∷ before) digits xs ys w.2 (λ u m. grown u here m) f.1 g.1 v (past_first s.0 v (is_walked v walk) h ne))
     (cases_eq s.0 v)
   where
-    rest : (x v : ℕ) (b : Bool) → ((x == v) || b) ≡ true → (x ≡ v → ⊥) → b ≡ true
-    rest x v b h ne = grind (arith, nat_tests)
-
     grown : (u : ℕ) → get_or xs s.0 0 ≡ get_or ys s.0 0 → is_member u (s.0 ∷ before) ≡ true → get_or xs u 0 ≡ get_or ys u 0
     grown u here m =
-        ⊎_elim (λ e. subst (λ z. get_or xs z 0 ≡ get_or ys z 0) e here) (λ ne. a u (rest s.0 u (is_member u before) m ne)) (cases_eq s.0 u)
+        ⊎_elim (λ e. subst (λ z. get_or xs z 0 ≡ get_or ys z 0) e here) (λ ne. a u (past_first s.0 u (is_member u before) m ne)) (cases_eq s.0 u)
 
 -- the digits of colours that differ along the walk are followed by these colours
 abbrev pub Differs : List (ℕ × ℕ) → List ℕ → Type 0
