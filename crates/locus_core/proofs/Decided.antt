@@ -4,7 +4,7 @@ use Rattle.std.proofs.lemmas.Bool.{false≢true, cases_lt}
 use Rattle.trees.specs.TreeNumbers.{tree_of}
 use Rattle.trees.proofs.TreeNumbers.{tree_of_in_all_trees}
 use Rattle.localisation.specs.Agreement.{NoneBad, is_bad_number}
-use Rattle.localisation.proofs.AllNumbers.{none_bad_trees}
+use Rattle.localisation.proofs.AllNumbers.{none_bad_trees, none_append}
 use Rattle.decorated_tree.proofs.Counts.{limits}
 use Rattle.locus_io.specs.Causes.{Rose}
 use Rattle.locus_io.specs.Content.{NamedFiles}
@@ -13,23 +13,24 @@ use Rattle.problem.specs.Sums.{count_of, is_bad_of, is_bad_tree_of, HasBadTree}
 use Rattle.problem_toml.specs.Reading.{reading}
 use Rattle.checkpoint.specs.Texts.{IsTextOf}
 use Rattle.rounds.specs.Rounds.{budget_end, reached}
-use Rattle.rounds.specs.Outcomes.{SumView, IsDone, IsPaused, IsNoInverse}
+use Rattle.rounds.specs.Outcomes.{SumView, IsDone, IsPaused, IsNoInverse, IsTrueSum}
 use Rattle.rounds.specs.declared.progress.Outcome.{Outcome}
 use Rattle.command_line.specs.Requests.{Request, Sum, run, resume}
 use Rattle.locus_core.specs.Outside.{Change, StopperState, HasStopped}
-use Rattle.locus_core.specs.Begins.{Beginning, Begins}
+use Rattle.locus_core.specs.Begins.{Beginning, Begins, IsTrueBeginning}
 use Rattle.locus_core.specs.Comes.{Sums, IsAnswer, done, paused, no_inverse, file_of_request}
 use Rattle.locus_core.specs.Ends.{Run, Ends, printed, words_refused, problem_refused, read_fault, write_fault, checkpoint_refused, want_of_memory}
-use Rattle.locus_core.specs.Headline.{IsDoneStatus, AsksOf, NamesBadTrees, end_of, IsStatusOf, IsDecided}
-use Rattle.locus_core.proofs.Inversions.{same_request, same_bytes, same_file, told_bytes, run_not_make, begun_by_run, begun_by_resume, make_begins_nothing, not_both_read, not_both_states, same_beginning}
-use Rattle.locus_core.proofs.Consequences.{done_is, came, CameBySum, CameByMake, if_told}
+use Rattle.locus_core.specs.Headline.{IsDoneStatus, NamesBadTrees, end_of, IsStatusOf, IsDecided}
+use Rattle.locus_core.proofs.TrueSums.{none_bad_before, true_at}
+use Rattle.locus_core.proofs.Inversions.{same_request, same_bytes, told_bytes, begun_by_run, begun_by_resume, make_begins_nothing, not_both_read, not_both_states, same_beginning}
+use Rattle.locus_core.proofs.Consequences.{done_is, came, CameBySum, CameByMake}
 
 pub small_degree : (p : ProblemView) → KeepsRules p → p.shape.degree < 11
 small_degree p rules = let l = limits p.shape.rank p.shape.degree p.shape.marks rules.shape in let m = l.most_degree in omega (arith, m)
 
 -- ---- bad trees
 -- the tree of a bad number is bad
-tree_bad : (p : ProblemView) (k : ℕ) → is_bad_of p k ≡ true → is_bad_tree_of p (tree_of p.shape k) ≡ true
+pub tree_bad : (p : ProblemView) (k : ℕ) → is_bad_of p k ≡ true → is_bad_tree_of p (tree_of p.shape k) ≡ true
 unfolding is_bad_number
 tree_bad p k h = h
 
@@ -44,27 +45,27 @@ has_bad_tree s budget k number modulus rules h =
       tree_bad p number h.least.is_bad,
     )
 
-no_bad_tree : (s : SumView) (budget k : ℕ) (residues : List ℕ) → KeepsRules s.problem → IsDone s budget k residues → s.next ≡ 0 → HasBadTree s.problem → ⊥
-no_bad_tree s budget k residues rules d first (g, i, bad) =
+pub no_bad_tree : (s : SumView) (budget k : ℕ) (residues : List ℕ) → KeepsRules s.problem → IsDone s budget k residues → IsTrueSum s → HasBadTree s.problem → ⊥
+no_bad_tree s budget k residues rules d truth (g, i, bad) =
     let p = s.problem in
     none_bad_trees p.weights p.integrals p.moduli p.shape (small_degree p rules)
-    (subst (λ n. NoneBad (is_bad_of p) n (count_of p)) first d.summed.none_bad) g i bad
+    (none_append (is_bad_of p) 0 s.next (count_of p) (none_bad_before s rules truth) d.summed.none_bad) g i bad
 
 four_is : (b : Beginning) (stopper : Change StopperState) (shares : List ℕ) (outcome : Outcome) (n : ℕ) (text : List ℕ) → Sums b stopper shares outcome
-    → IsAnswer b outcome n text → b.sum.next ≡ 0 → IsDoneStatus n ⊎ (n ≡ 4) → (n ≡ 4) ↔ HasBadTree b.sum.problem
-four_is b stopper shares _ _ _ sums (done residues fractions are) first is = (
+    → IsAnswer b outcome n text → IsTrueBeginning b → IsDoneStatus n ⊎ (n ≡ 4) → (n ≡ 4) ↔ HasBadTree b.sum.problem
+four_is b stopper shares _ _ _ sums (done residues fractions are) truth is = (
   λ four. absurd (not_four (done_is fractions) four),
-  λ bad. absurd (no_bad_tree b.sum b.plan.budget sums.progress.rounds residues sums.rules sums.progress.outcome first bad),
+  λ bad. absurd (no_bad_tree b.sum b.plan.budget sums.progress.rounds residues sums.rules sums.progress.outcome (true_at b sums.rules truth) bad),
 )
   where
     not_four : {k : ℕ} → IsDoneStatus k → k ≡ 4 → ⊥
     not_four (inl i) f = omega (arith, i, f)
     not_four (inr i) f = omega (arith, i, f)
-four_is b stopper shares _ _ _ sums (no_inverse number modulus) first is =
-    (λ _. has_bad_tree b.sum b.plan.budget sums.progress.rounds number modulus sums.rules sums.progress.outcome, λ _. refl)
-four_is b stopper shares _ _ _ sums (paused source next residues source_is) first (inl (inl e)) = absurd (omega (arith, e))
-four_is b stopper shares _ _ _ sums (paused source next residues source_is) first (inl (inr e)) = absurd (omega (arith, e))
-four_is b stopper shares _ _ _ sums (paused source next residues source_is) first (inr e) = absurd (omega (arith, e))
+four_is b stopper shares _ _ _ sums (no_inverse number index) truth is =
+    (λ _. has_bad_tree b.sum b.plan.budget sums.progress.rounds number index sums.rules sums.progress.outcome, λ _. refl)
+four_is b stopper shares _ _ _ sums (paused source next residues source_is) truth (inl (inl e)) = absurd (omega (arith, e))
+four_is b stopper shares _ _ _ sums (paused source next residues source_is) truth (inl (inr e)) = absurd (omega (arith, e))
+four_is b stopper shares _ _ _ sums (paused source next residues source_is) truth (inr e) = absurd (omega (arith, e))
 
 no_sum_status : (n m : ℕ) → IsDoneStatus n ⊎ (n ≡ 4) → n ≡ m → m ≢ 0 → m ≢ 1 → m ≢ 4 → ⊥
 no_sum_status n m (inl (inl e)) is a b c = a (sym is ∙ e)
@@ -72,32 +73,24 @@ no_sum_status n m (inl (inr e)) is a b c = b (sym is ∙ e)
 no_sum_status n m (inr e) is a b c = c (sym is ∙ e)
 
 pub bad : (r : Run) (n : ℕ) → Ends r n → NamesBadTrees r n
-bad r n e = if_told r.files.before.content _ (λ told is s bytes p asks reads status. by_end told is s bytes p asks reads status e)
+bad r n e status request b asks knows begins truth = by_end e
   where
-    by_sum : (told : NamedFiles) → r.files.before.content ≡ Some told → (s : Sum) (bytes : List ℕ) (p : ProblemView) → AsksOf r told (run s) bytes
-        → reading bytes ≡ Ok p → IsDoneStatus n ⊎ (n ≡ 4) → {request : Request} {text : List ℕ} → request ≡ run s
-        → CameBySum r.files r.stopper r.shares request n text ⊎ CameByMake request n text → (n ≡ 4) ↔ HasBadTree p
-    by_sum told is s bytes p asks reads status {request} same (inl c) =
-        let h = begun_by_run r.files request s c.beginning c.begins same in
-        let name = same_file (run s) (run s) asks.name s.file refl asks.asked refl in
-        let b = same_bytes r.files told asks.name s.file bytes h.bytes is name asks.file h.file in
-        let problems : Ok h.problem ≡ Ok p = sym h.reads ∙ ap reading (sym b) ∙ reads in
-        let problem : h.problem ≡ p = cc in
-        let begun = h.is in
-        subst (λ q. (n ≡ 4) ↔ HasBadTree q) (ap (λ x. x.sum.problem) begun ∙ problem)
-        (four_is c.beginning r.stopper r.shares c.outcome n _ c.sums c.answer (ap (λ x. x.sum.next) begun) status)
-    by_sum told is s bytes p asks reads status same (inr c) = absurd (run_not_make s c.number (sym same ∙ c.asked))
+    by_came : {asked : Request} {text : List ℕ} → asked ≡ request → CameBySum r.files r.stopper r.shares asked n text ⊎ CameByMake asked n text
+        → (n ≡ 4) ↔ HasBadTree b.sum.problem
+    by_came same (inl c) =
+        let one = same_beginning r.files request c.beginning b knows (subst (λ x. Begins r.files x c.beginning) same c.begins) begins in
+        subst (λ x. (n ≡ 4) ↔ HasBadTree x.sum.problem) one
+        (four_is c.beginning r.stopper r.shares c.outcome n _ c.sums c.answer (subst IsTrueBeginning (sym one) truth) status)
+    by_came same (inr c) = absurd (make_begins_nothing r.files request c.number b begins (sym same ∙ c.asked))
 
-    by_end : (told : NamedFiles) → r.files.before.content ≡ Some told → (s : Sum) (bytes : List ℕ) (p : ProblemView) → AsksOf r told (run s) bytes
-        → reading bytes ≡ Ok p → IsDoneStatus n ⊎ (n ≡ 4) → Ends r n → (n ≡ 4) ↔ HasBadTree p
-    by_end told is s bytes p asks reads status (printed w) =
-        by_sum told is s bytes p asks reads status (same_request r w.request (run s) w.words asks.words) (came w.comes)
-    by_end told is s bytes p asks reads status (words_refused e w) = absurd (w.words (run s) asks.words)
-    by_end told is s bytes p asks reads status (problem_refused e w) = absurd (no_sum_status n 3 status e (λ x. cc) (λ x. cc) (λ x. cc))
-    by_end told is s bytes p asks reads status (read_fault e w) = absurd (no_sum_status n 6 status e (λ x. cc) (λ x. cc) (λ x. cc))
-    by_end told is s bytes p asks reads status (write_fault e w) = absurd (no_sum_status n 7 status e (λ x. cc) (λ x. cc) (λ x. cc))
-    by_end told is s bytes p asks reads status (checkpoint_refused e w) = absurd (no_sum_status n 8 status e (λ x. cc) (λ x. cc) (λ x. cc))
-    by_end told is s bytes p asks reads status (want_of_memory e w) = absurd (no_sum_status n 9 status e (λ x. cc) (λ x. cc) (λ x. cc))
+    by_end : Ends r n → (n ≡ 4) ↔ HasBadTree b.sum.problem
+    by_end (printed w) = by_came (same_request r w.request request w.words asks) (came w.comes)
+    by_end (words_refused e w) = absurd (w.words request asks)
+    by_end (problem_refused e w) = absurd (no_sum_status n 3 status e (λ x. cc) (λ x. cc) (λ x. cc))
+    by_end (read_fault e w) = absurd (no_sum_status n 6 status e (λ x. cc) (λ x. cc) (λ x. cc))
+    by_end (write_fault e w) = absurd (no_sum_status n 7 status e (λ x. cc) (λ x. cc) (λ x. cc))
+    by_end (checkpoint_refused e w) = absurd (no_sum_status n 8 status e (λ x. cc) (λ x. cc) (λ x. cc))
+    by_end (want_of_memory e w) = absurd (no_sum_status n 9 status e (λ x. cc) (λ x. cc) (λ x. cc))
 
 -- ---- the status of a sum that nobody stops
 stopped_rose : (stopper : Change StopperState) (o : Option (List ℕ)) → IsSome o × IfSome o (λ name. HasStopped stopper name)

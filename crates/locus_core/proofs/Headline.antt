@@ -1,5 +1,5 @@
 -- What was printed of a sum, whose shares, and which bytes: read off from how the run ended.
-use Rattle.std.proofs.Common.{◌≡◌, ◌⊎◌, ℕ, inl, inr, ◌+◌, ◌<◌, ◌≤◌, true, List, [], Some, Ok, refl, sym, subst, arith, ⊎_elim}
+use Rattle.std.proofs.Common.{◌≡◌, ◌≢◌, ◌⊎◌, ℕ, inl, inr, ◌+◌, ◌<◌, ◌≤◌, true, List, [], Some, Ok, refl, sym, ◌∙◌, subst, arith, ⊎_elim}
 use Rattle.std.proofs.lemmas.Bool.{cases_lt}
 use Rattle.trees.specs.Decorated.{DecoratedTree, all_trees}
 use Rattle.lists.specs.Members.{IsIn}
@@ -10,7 +10,6 @@ use Rattle.localisation.proofs.AllNumbers.{bad_number_of, none_append}
 use Rattle.problem.specs.Rules.{ProblemView, KeepsRules}
 use Rattle.problem.specs.Sums.{count_of, is_bad_of, is_bad_modulo, is_bad_tree_of}
 use Rattle.problem_toml.specs.Reading.{reading}
-use Rattle.checkpoint.proofs.FirstStates.{first_is_true}
 use Rattle.report.specs.Outcome as outcome
 use Rattle.report.proofs.Sums.{sums_found}
 use Rattle.rounds.specs.Rounds.{budget_end, reached}
@@ -18,15 +17,17 @@ use Rattle.rounds.specs.Outcomes.{SumView, IsDone, IsPaused, IsNoInverse, IsTrue
 use Rattle.rounds.specs.declared.progress.Outcome.{Outcome}
 use Rattle.rounds.specs.declared.progress.Outcome.TheVariants.{Done, Paused}
 use Rattle.rounds.proofs.Running.{keeps_truth}
-use Rattle.command_line.specs.Requests.{Request}
+use Rattle.command_line.specs.Requests.{Request, make}
 use Rattle.locus_core.specs.Words.{AsksFor}
-use Rattle.locus_core.specs.Outside.{Change, FilesState, Takes}
+use Rattle.locus_core.specs.Outside.{Change, FilesState, StopperState, Unchanged, Takes, BreaksOff}
 use Rattle.locus_core.specs.Begins.{Beginning, Begins, by_run, by_resume, by_soak, IsTrueBeginning}
-use Rattle.locus_core.specs.Comes.{Comes, Sums, IsAnswer, done, paused, no_inverse}
-use Rattle.locus_core.specs.Ends.{Run, Ends, printed, words_refused, problem_refused, read_fault, write_fault, checkpoint_refused, want_of_memory}
-use Rattle.locus_core.specs.Headline.{IsDoneStatus, IsPrintedStatus, PrintsSums, NamesLeast, PrintsCheckpoint, SharesBlocks, AsksNoText, IsRefusedStatus, ClaimsBlocks, WritesBytes}
+use Rattle.locus_core.specs.Comes.{Comes, summed, made, Sums, IsAnswer, done, paused, no_inverse}
+use Rattle.locus_core.specs.Ends.{Run, Printed, WordsRefused, ProblemRefused, CheckpointRefused, ReadFault, WriteFault, WantOfMemory, Ends, printed, words_refused, problem_refused, read_fault, write_fault, checkpoint_refused, want_of_memory}
+use Rattle.locus_core.specs.Headline.{IsDoneStatus, IsPrintedStatus, end_of, PrintsSums, PrintsItsSums, NamesLeast, PrintsCheckpoint, SharesBlocks, IsMaking, IsSilentStatus, ClaimsBlocks, WritesBytes}
+use Rattle.locus_core.proofs.TrueSums.{none_bad_before, true_at}
+use Rattle.locus_core.proofs.Inversions.{same_request, make_begins_nothing}
 use Rattle.locus_core.proofs.Consequences.{done_is, came, came_printed, CameBySum, CameByMake, never}
-use Rattle.locus_core.proofs.Decided.{small_degree, below_count, paused_end}
+use Rattle.locus_core.proofs.Decided.{small_degree, below_count, no_bad_tree, paused_end}
 
 -- ---- a sum that is begun
 -- no more trees are summed than there are
@@ -34,10 +35,6 @@ within : (files : Change FilesState) (request : Request) (b : Beginning) → Beg
 within files _ _ (by_run s bytes p file reads) = omega arith
 within files _ _ (by_resume s bytes state file is of) = is.next
 within files _ _ (by_soak number workers) = omega arith
-
-true_at : (b : Beginning) → KeepsRules b.sum.problem → IsTrueBeginning b → IsTrueSum b.sum
-true_at b rules (inl fresh) = subst IsTrueSum (sym fresh) (first_is_true [] b.sum.problem rules)
-true_at b rules (inr true_sum) = true_sum
 
 -- the text of a source that reads as the problem of the sum
 reads_source : (files : Change FilesState) (request : Request) (b : Beginning) (source : List ℕ) → Begins files request b → b.source ≡ Some source
@@ -61,22 +58,32 @@ sums_printed r request b _ _ _ asks begins sums (done residues fractions are) ou
       summed = d.summed;
       agree = are;
       status = refl;
+      none_bad = λ t. no_bad_tree b.sum b.plan.budget sums.progress.rounds residues sums.rules d (true_at b sums.rules t);
       truth = λ t. truth (true_at b sums.rules t);
       found = λ t. sums_found b.sum.problem residues fractions (truth (true_at b sums.rules t)) are;
+      stopper = sums.kept (λ early. early);
       out = out;
     }
 sums_printed r request b _ _ _ asks begins sums (paused source next residues same) out (inl e) = absurd (omega (arith, e))
 sums_printed r request b _ _ _ asks begins sums (paused source next residues same) out (inr e) = absurd (omega (arith, e))
-sums_printed r request b _ _ _ asks begins sums (no_inverse number modulus) out (inl e) = absurd (omega (arith, e))
-sums_printed r request b _ _ _ asks begins sums (no_inverse number modulus) out (inr e) = absurd (omega (arith, e))
+sums_printed r request b _ _ _ asks begins sums (no_inverse number index) out (inl e) = absurd (omega (arith, e))
+sums_printed r request b _ _ _ asks begins sums (no_inverse number index) out (inr e) = absurd (omega (arith, e))
 
--- a status that is printed is none of a refusal
-refused_never : (n : ℕ) → IsPrintedStatus n → IsRefusedStatus n → ⊥
-refused_never n p (inl e) = never n 2 p e refl
-refused_never n p (inr (inl e)) = never n 3 p e refl
-refused_never n p (inr (inr (inl e))) = never n 6 p e refl
-refused_never n p (inr (inr (inr (inl e)))) = never n 8 p e refl
-refused_never n p (inr (inr (inr (inr e)))) = never n 9 p e refl
+-- a status at which a text is printed is none of those that print nothing
+silent_never : (n : ℕ) → IsPrintedStatus n → IsSilentStatus n → ⊥
+silent_never n p (inl e) = never n 2 p e refl
+silent_never n p (inr (inl e)) = never n 3 p e refl
+silent_never n p (inr (inr (inl e))) = never n 6 p e refl
+silent_never n p (inr (inr (inr (inl e)))) = never n 8 p e refl
+silent_never n p (inr (inr (inr (inr e)))) = never n 9 p e refl
+
+-- a prefix of a text may be on the output at status 7
+seven_tells : (n : ℕ) → IsSilentStatus n → n ≡ 7 → ⊥
+seven_tells n (inl k) e = omega (arith, k, e)
+seven_tells n (inr (inl k)) e = omega (arith, k, e)
+seven_tells n (inr (inr (inl k))) e = omega (arith, k, e)
+seven_tells n (inr (inr (inr (inl k)))) e = omega (arith, k, e)
+seven_tells n (inr (inr (inr (inr k)))) e = omega (arith, k, e)
 
 -- at the status of a printed text, the run ended so
 pub as_printed : {P : Type 0} (r : Run) (n : ℕ) → IsPrintedStatus n → Ends r n
@@ -89,13 +96,13 @@ as_printed r n is (write_fault e w) f = absurd (never n 7 is e refl)
 as_printed r n is (checkpoint_refused e w) f = absurd (never n 8 is e refl)
 as_printed r n is (want_of_memory e w) f = absurd (never n 9 is e refl)
 
-pub sums : (r : Run) (n : ℕ) → Ends r n → AsksNoText r → IsDoneStatus n → PrintsSums r n
-sums r n e no_text is = as_printed r n (inl is) e (λ request text asks comes out. by request text asks out (came comes))
+pub sums : (r : Run) (n : ℕ) → Ends r n → PrintsItsSums r n
+sums r n e not_making is = as_printed r n (inl is) e (λ request text asks comes out. by request text asks out (came comes))
   where
     by : (request : Request) (text : List ℕ) → AsksFor r.words request → Takes r.out text
         → CameBySum r.files r.stopper r.shares request n text ⊎ CameByMake request n text → PrintsSums r n
     by request text asks out (inl c) = sums_printed r request c.beginning c.outcome n text asks c.begins c.sums c.answer out is
-    by request text asks out (inr c) = absurd (no_text c.number (subst (AsksFor r.words) c.asked asks))
+    by request text asks out (inr c) = absurd (not_making (c.number, subst (AsksFor r.words) c.asked asks))
 
 -- ---- the least bad number
 -- a decorated tree that is bad has the least bad number or a greater one
@@ -105,43 +112,55 @@ no_less p number rules least g i bad =
     let n = bad_number_of p.weights p.integrals p.moduli p.shape g (small_degree p rules) i bad in
     ⊎_elim (λ l. absurd (least.least (number_of p.shape g) (omega arith) l n.1)) (λ h. h) (cases_lt (number_of p.shape g) number)
 
-of_all_trees : (p : ProblemView) (number modulus : ℕ) → KeepsRules p → IsLeastBad (is_bad_of p) 0 (count_of p) number
-    → IsFirstBad (is_bad_modulo p number) p.moduli modulus → outcome.IsNoInverse p number modulus
-of_all_trees p number modulus rules least first = record {
+of_all_trees : (p : ProblemView) (number index : ℕ) → KeepsRules p → IsLeastBad (is_bad_of p) 0 (count_of p) number
+    → IsFirstBad (is_bad_modulo p number) p.moduli modulus → outcome.IsNoInverse p number index
+of_all_trees p number index rules least first = record {
   least = least;
   first = first;
   tree = tree_of_in_all_trees p.shape number (small_degree p rules) least.below;
   least_of_all = no_less p number rules least;
 }
 
-least_of_rounds : (s : SumView) (budget k number modulus : ℕ) → IsNoInverse s budget k number modulus
+least_of_rounds : (s : SumView) (budget k number index : ℕ) → IsNoInverse s budget k number index
     → IsLeastBad (is_bad_of s.problem) s.next (count_of s.problem) number
-least_of_rounds s budget k number modulus h =
+least_of_rounds s budget k number index h =
     let last = h.last in
     let started = h.rounds h.round (let l : h.round < k = omega (arith, last) in l) in
     let from = h.least.from in
     record {
       from = omega (arith, from, started);
-      below = below_count s budget k number modulus h;
+      below = below_count s budget k number index h;
       is_bad = h.least.is_bad;
       least = λ j a b t.
           none_append (is_bad_of s.problem) s.next (reached s.next (budget_end (count_of s.problem) s.next budget) h.round) number h.earlier h.least.least j a b t;
     }
 
+-- if no number before the first one is bad, it is the least of all
+from_first : (s : SumView) (number : ℕ) → NoneBad (is_bad_of s.problem) 0 s.next → IsLeastBad (is_bad_of s.problem) s.next (count_of s.problem) number
+    → IsLeastBad (is_bad_of s.problem) 0 (count_of s.problem) number
+from_first s number none l = record {
+  from = omega arith;
+  below = l.below;
+  is_bad = l.is_bad;
+  least = λ j a b t. none_append (is_bad_of s.problem) 0 s.next number none l.least j a b t;
+}
+
 least_printed : (r : Run) (request : Request) (b : Beginning) (o : Outcome) (n : ℕ) (text : List ℕ) → AsksFor r.words request → Begins r.files request b
     → Sums b r.stopper r.shares o → IsAnswer b o n text → Takes r.out text → n ≡ 4 → NamesLeast r
-least_printed r request b _ _ _ asks begins sums (no_inverse number modulus) out is =
-    let h : IsNoInverse b.sum b.plan.budget sums.progress.rounds number modulus = sums.progress.outcome in
-    let least = least_of_rounds b.sum b.plan.budget sums.progress.rounds number modulus h in
+least_printed r request b _ _ _ asks begins sums (no_inverse number index) out is =
+    let h : IsNoInverse b.sum b.plan.budget sums.progress.rounds number index = sums.progress.outcome in
+    let least = least_of_rounds b.sum b.plan.budget sums.progress.rounds number index h in
     record {
       beginning = b;
       number = number;
-      modulus = modulus;
+      index = index;
       begun = record { request = request; words = asks; begins = begins };
       least = least;
       first = h.first;
-      of_all = λ zero.
-          of_all_trees b.sum.problem number modulus sums.rules (subst (λ n. IsLeastBad (is_bad_of b.sum.problem) n (count_of b.sum.problem) number) zero least) h.first;
+      of_all = λ t.
+          of_all_trees b.sum.problem number index sums.rules
+          (from_first b.sum number (none_bad_before b.sum sums.rules (true_at b sums.rules t)) least) h.first;
+      stopper = sums.kept (λ early. early);
       out = out;
     }
 least_printed r request b _ _ _ asks begins sums (paused source next residues same) out is = absurd (omega (arith, is))
@@ -160,6 +179,9 @@ refusal r n e is = as_printed r n (inr (inl is)) e (λ request text asks comes o
     by request text asks out (inr c) = let zero = c.zero in absurd (omega (arith, zero, is))
 
 -- ---- pauses
+before_end : (b : Beginning) (next : ℕ) → next < b.sum.next + b.plan.budget → next < count_of b.sum.problem → next < end_of b
+before_end b next early left = omega (arith, early, left)
+
 pause_printed : (r : Run) (request : Request) (b : Beginning) (o : Outcome) (n : ℕ) (text : List ℕ) → AsksFor r.words request → Begins r.files request b
     → Sums b r.stopper r.shares o → IsAnswer b o n text → Takes r.out text → n ≡ 5 → PrintsCheckpoint r
 pause_printed r request b _ _ _ asks begins sums (paused source next residues same) out is =
@@ -170,6 +192,7 @@ pause_printed r request b _ _ _ asks begins sums (paused source next residues sa
     record {
       beginning = b;
       source = source;
+      rounds = sums.progress.rounds;
       next = next;
       residues = residues;
       begun = record { request = request; words = asks; begins = begins };
@@ -180,10 +203,10 @@ pause_printed r request b _ _ _ asks begins sums (paused source next residues sa
         next = omega (arith, left);
         residues = h.summed.are_residues;
       };
-      summed = h.summed;
+      paused = h;
       truth = λ t. truth (true_at b sums.rules t);
       cause = ⊎_elim
-          (λ early. inr (sums.stopped early))
+          (λ early. inr (before_end b next early left, sums.stopped early))
           (λ late. inl (
             sym (paused_end (count_of b.sum.problem) b.sum.next b.plan.budget sums.progress.rounds next at left (λ early. omega (arith, early, late))),
             sums.kept (λ early. omega (arith, early, late)),
@@ -191,7 +214,7 @@ pause_printed r request b _ _ _ asks begins sums (paused source next residues sa
           (cases_lt next (b.sum.next + b.plan.budget));
       out = out;
     }
-pause_printed r request b _ _ _ asks begins sums (no_inverse number modulus) out is = absurd (omega (arith, is))
+pause_printed r request b _ _ _ asks begins sums (no_inverse number index) out is = absurd (omega (arith, is))
 pause_printed r request b _ _ _ asks begins sums (done residues fractions are) out is = absurd (by (done_is fractions) is)
   where
     by : {k : ℕ} → IsDoneStatus k → k ≡ 5 → ⊥
@@ -207,43 +230,44 @@ pause r n e is = as_printed r n (inr (inr is)) e (λ request text asks comes out
     by request text asks out (inr c) = let zero = c.zero in absurd (omega (arith, zero, is))
 
 -- ---- shares
-by_sum : (r : Run) (request : Request) {m : ℕ} {text : List ℕ} → AsksFor r.words request → AsksNoText r
-    → CameBySum r.files r.stopper r.shares request m text ⊎ CameByMake request m text → SharesBlocks r
-by_sum r request asks no_text (inl c) = record {
+by_sum : (r : Run) (n : ℕ) (request : Request) {m : ℕ} {text : List ℕ} → AsksFor r.words request
+    → CameBySum r.files r.stopper r.shares request m text ⊎ CameByMake request m text
+    → ((n ≡ m) × Takes r.out text) ⊎ ((n ≡ 7) × BreaksOff r.out text) → IsMaking r ⊎ SharesBlocks r n ⊎ IsSilentStatus n
+by_sum r n request {m} {text} asks (inl c) out = inr (inl (record {
   beginning = c.beginning;
   outcome = c.outcome;
+  status = m;
+  text = text;
   begun = record { request = request; words = asks; begins = c.begins };
   progress = c.sums.progress;
-}
-by_sum r request asks no_text (inr c) = absurd (no_text c.number (subst (AsksFor r.words) c.asked asks))
+  answer = c.answer;
+  out = out;
+}))
+by_sum r n request asks (inr c) out = inl (c.number, subst (AsksFor r.words) c.asked asks)
+
+-- nothing is summed where a text is made
+made_alone : {files : Change FilesState} {stopper : Change StopperState} {shares : List ℕ} {request : Request} {n : ℕ} {text : List ℕ} (number : ℕ)
+    → Comes files stopper shares request n text → request ≡ make number → shares ≡ []
+made_alone {files} number (summed request b outcome n text begins sums answer) e = absurd (make_begins_nothing files request number b begins e)
+made_alone number (made k text reads none still) e = none
 
 pub claims : (r : Run) (n : ℕ) → Ends r n → ClaimsBlocks r n
 claims r n e = (shared e, none e)
   where
-    shared : Ends r n → AsksNoText r → IsPrintedStatus n ⊎ (n ≡ 7) → SharesBlocks r
-    shared (printed w) no_text is = by_sum r w.request w.words no_text (came w.comes)
-    shared (write_fault seven w) no_text is = by_sum r w.request w.words no_text (came w.comes)
-    shared (words_refused k w) no_text (inl is) = absurd (never n 2 is k refl)
-    shared (problem_refused k w) no_text (inl is) = absurd (never n 3 is k refl)
-    shared (read_fault k w) no_text (inl is) = absurd (never n 6 is k refl)
-    shared (checkpoint_refused k w) no_text (inl is) = absurd (never n 8 is k refl)
-    shared (want_of_memory k w) no_text (inl is) = absurd (never n 9 is k refl)
-    shared (words_refused k w) no_text (inr is) = absurd (omega (arith, k, is))
-    shared (problem_refused k w) no_text (inr is) = absurd (omega (arith, k, is))
-    shared (read_fault k w) no_text (inr is) = absurd (omega (arith, k, is))
-    shared (checkpoint_refused k w) no_text (inr is) = absurd (omega (arith, k, is))
-    shared (want_of_memory k w) no_text (inr is) = absurd (omega (arith, k, is))
+    shared : Ends r n → IsMaking r ⊎ SharesBlocks r n ⊎ IsSilentStatus n
+    shared (printed w) = by_sum r n w.request w.words (came w.comes) (inl (refl, w.out))
+    shared (write_fault seven w) = by_sum r n w.request w.words (came w.comes) (inr (seven, w.out))
+    shared (words_refused k w) = inr (inr (inl k))
+    shared (problem_refused k w) = inr (inr (inr (inl k)))
+    shared (read_fault k w) = inr (inr (inr (inr (inl k))))
+    shared (checkpoint_refused k w) = inr (inr (inr (inr (inr (inl k)))))
+    shared (want_of_memory k w) = inr (inr (inr (inr (inr (inr k)))))
 
-    not_seven : IsRefusedStatus n → n ≡ 7 → ⊥
-    not_seven (inl k) e = omega (arith, k, e)
-    not_seven (inr (inl k)) e = omega (arith, k, e)
-    not_seven (inr (inr (inl k))) e = omega (arith, k, e)
-    not_seven (inr (inr (inr (inl k)))) e = omega (arith, k, e)
-    not_seven (inr (inr (inr (inr k)))) e = omega (arith, k, e)
-
-    none : Ends r n → IsRefusedStatus n → r.shares ≡ []
-    none (printed w) is = absurd (refused_never n (came_printed w.comes) is)
-    none (write_fault seven w) is = absurd (not_seven is seven)
+    none : Ends r n → IsMaking r ⊎ IsSilentStatus n → r.shares ≡ []
+    none (printed w) (inl (k, asks)) = made_alone k w.comes (same_request r w.request (make k) w.words asks)
+    none (printed w) (inr is) = absurd (silent_never n (came_printed w.comes) is)
+    none (write_fault seven w) (inl (k, asks)) = made_alone k w.comes (same_request r w.request (make k) w.words asks)
+    none (write_fault seven w) (inr is) = absurd (seven_tells n is seven)
     none (words_refused k w) is = w.idle.shares
     none (problem_refused k w) is = w.idle.shares
     none (read_fault k w) is = w.idle.shares
@@ -251,62 +275,99 @@ claims r n e = (shared e, none e)
     none (want_of_memory k w) is = w.shares
 
 -- ---- bytes
+apart : (n a b : ℕ) → n ≡ a → n ≡ b → a ≢ b → ⊥
+apart n a b e f h = h (sym e ∙ f)
+
 pub bytes : (r : Run) (n : ℕ) → Ends r n → WritesBytes r n
-bytes r n (printed w) =
-    let is = came_printed w.comes in
-    record {
-      printed = λ _. ((w.text, w.out), w.err);
-      broken = λ e. absurd (never n 7 is e refl);
-      refused = λ e. absurd (refused_never n is e);
-      served = λ _. w.files;
-      fault = λ e. absurd (never n 6 is e refl);
-    }
-bytes r n (write_fault seven w) = record {
-  printed = λ is. absurd (never n 7 is seven refl);
-  broken = λ _. (w.text, w.out);
-  refused = λ is. absurd (not_seven is);
-  served = λ _. w.files;
-  fault = λ e. absurd (omega (arith, seven, e));
+bytes r n e = record {
+  printed = at_printed e;
+  words_refused = at_words e;
+  problem_refused = at_problem e;
+  read_fault = at_read e;
+  write_fault = at_write e;
+  checkpoint_refused = at_checkpoint e;
+  want_of_memory = at_memory e;
+  silent = at_silent e;
+  served = at_served e;
 }
   where
-    not_seven : IsRefusedStatus n → ⊥
-    not_seven (inl k) = omega (arith, k, seven)
-    not_seven (inr (inl k)) = omega (arith, k, seven)
-    not_seven (inr (inr (inl k))) = omega (arith, k, seven)
-    not_seven (inr (inr (inr (inl k)))) = omega (arith, k, seven)
-    not_seven (inr (inr (inr (inr k)))) = omega (arith, k, seven)
-bytes r n (words_refused k w) = record {
-  printed = λ is. absurd (never n 2 is k refl);
-  broken = λ e. absurd (omega (arith, k, e));
-  refused = λ _. w.idle.out;
-  served = λ _. w.files;
-  fault = λ e. absurd (omega (arith, k, e));
-}
-bytes r n (problem_refused k w) = record {
-  printed = λ is. absurd (never n 3 is k refl);
-  broken = λ e. absurd (omega (arith, k, e));
-  refused = λ _. w.idle.out;
-  served = λ _. w.files;
-  fault = λ e. absurd (omega (arith, k, e));
-}
-bytes r n (checkpoint_refused k w) = record {
-  printed = λ is. absurd (never n 8 is k refl);
-  broken = λ e. absurd (omega (arith, k, e));
-  refused = λ _. w.idle.out;
-  served = λ _. w.files;
-  fault = λ e. absurd (omega (arith, k, e));
-}
-bytes r n (read_fault k w) = record {
-  printed = λ is. absurd (never n 6 is k refl);
-  broken = λ e. absurd (omega (arith, k, e));
-  refused = λ _. w.idle.out;
-  served = λ other. absurd (other k);
-  fault = λ _. w.files.fault.rose;
-}
-bytes r n (want_of_memory k w) = record {
-  printed = λ is. absurd (never n 9 is k refl);
-  broken = λ e. absurd (omega (arith, k, e));
-  refused = λ _. w.out;
-  served = λ _. w.files;
-  fault = λ e. absurd (omega (arith, k, e));
-}
+    at_printed : Ends r n → IsPrintedStatus n → Printed r n
+    at_printed (printed w) is = w
+    at_printed (words_refused k w) is = absurd (never n 2 is k refl)
+    at_printed (problem_refused k w) is = absurd (never n 3 is k refl)
+    at_printed (read_fault k w) is = absurd (never n 6 is k refl)
+    at_printed (write_fault k w) is = absurd (never n 7 is k refl)
+    at_printed (checkpoint_refused k w) is = absurd (never n 8 is k refl)
+    at_printed (want_of_memory k w) is = absurd (never n 9 is k refl)
+
+    at_words : Ends r n → n ≡ 2 → WordsRefused r
+    at_words (printed w) is = absurd (never n 2 (came_printed w.comes) is refl)
+    at_words (words_refused k w) is = w
+    at_words (problem_refused k w) is = absurd (apart n 3 2 k is (λ x. cc))
+    at_words (read_fault k w) is = absurd (apart n 6 2 k is (λ x. cc))
+    at_words (write_fault k w) is = absurd (apart n 7 2 k is (λ x. cc))
+    at_words (checkpoint_refused k w) is = absurd (apart n 8 2 k is (λ x. cc))
+    at_words (want_of_memory k w) is = absurd (apart n 9 2 k is (λ x. cc))
+
+    at_problem : Ends r n → n ≡ 3 → ProblemRefused r
+    at_problem (printed w) is = absurd (never n 3 (came_printed w.comes) is refl)
+    at_problem (words_refused k w) is = absurd (apart n 2 3 k is (λ x. cc))
+    at_problem (problem_refused k w) is = w
+    at_problem (read_fault k w) is = absurd (apart n 6 3 k is (λ x. cc))
+    at_problem (write_fault k w) is = absurd (apart n 7 3 k is (λ x. cc))
+    at_problem (checkpoint_refused k w) is = absurd (apart n 8 3 k is (λ x. cc))
+    at_problem (want_of_memory k w) is = absurd (apart n 9 3 k is (λ x. cc))
+
+    at_read : Ends r n → n ≡ 6 → ReadFault r
+    at_read (printed w) is = absurd (never n 6 (came_printed w.comes) is refl)
+    at_read (words_refused k w) is = absurd (apart n 2 6 k is (λ x. cc))
+    at_read (problem_refused k w) is = absurd (apart n 3 6 k is (λ x. cc))
+    at_read (read_fault k w) is = w
+    at_read (write_fault k w) is = absurd (apart n 7 6 k is (λ x. cc))
+    at_read (checkpoint_refused k w) is = absurd (apart n 8 6 k is (λ x. cc))
+    at_read (want_of_memory k w) is = absurd (apart n 9 6 k is (λ x. cc))
+
+    at_write : Ends r n → n ≡ 7 → WriteFault r
+    at_write (printed w) is = absurd (never n 7 (came_printed w.comes) is refl)
+    at_write (words_refused k w) is = absurd (apart n 2 7 k is (λ x. cc))
+    at_write (problem_refused k w) is = absurd (apart n 3 7 k is (λ x. cc))
+    at_write (read_fault k w) is = absurd (apart n 6 7 k is (λ x. cc))
+    at_write (write_fault k w) is = w
+    at_write (checkpoint_refused k w) is = absurd (apart n 8 7 k is (λ x. cc))
+    at_write (want_of_memory k w) is = absurd (apart n 9 7 k is (λ x. cc))
+
+    at_checkpoint : Ends r n → n ≡ 8 → CheckpointRefused r
+    at_checkpoint (printed w) is = absurd (never n 8 (came_printed w.comes) is refl)
+    at_checkpoint (words_refused k w) is = absurd (apart n 2 8 k is (λ x. cc))
+    at_checkpoint (problem_refused k w) is = absurd (apart n 3 8 k is (λ x. cc))
+    at_checkpoint (read_fault k w) is = absurd (apart n 6 8 k is (λ x. cc))
+    at_checkpoint (write_fault k w) is = absurd (apart n 7 8 k is (λ x. cc))
+    at_checkpoint (checkpoint_refused k w) is = w
+    at_checkpoint (want_of_memory k w) is = absurd (apart n 9 8 k is (λ x. cc))
+
+    at_memory : Ends r n → n ≡ 9 → WantOfMemory r
+    at_memory (printed w) is = absurd (never n 9 (came_printed w.comes) is refl)
+    at_memory (words_refused k w) is = absurd (apart n 2 9 k is (λ x. cc))
+    at_memory (problem_refused k w) is = absurd (apart n 3 9 k is (λ x. cc))
+    at_memory (read_fault k w) is = absurd (apart n 6 9 k is (λ x. cc))
+    at_memory (write_fault k w) is = absurd (apart n 7 9 k is (λ x. cc))
+    at_memory (checkpoint_refused k w) is = absurd (apart n 8 9 k is (λ x. cc))
+    at_memory (want_of_memory k w) is = w
+
+    at_silent : Ends r n → IsSilentStatus n → Unchanged r.out
+    at_silent (printed w) is = absurd (silent_never n (came_printed w.comes) is)
+    at_silent (write_fault k w) is = absurd (seven_tells n is k)
+    at_silent (words_refused k w) is = w.idle.out
+    at_silent (problem_refused k w) is = w.idle.out
+    at_silent (read_fault k w) is = w.idle.out
+    at_silent (checkpoint_refused k w) is = w.idle.out
+    at_silent (want_of_memory k w) is = w.out
+
+    at_served : Ends r n → n ≢ 6 → Unchanged r.files
+    at_served (printed w) other = w.files
+    at_served (words_refused k w) other = w.files
+    at_served (problem_refused k w) other = w.files
+    at_served (read_fault k w) other = absurd (other k)
+    at_served (write_fault k w) other = w.files
+    at_served (checkpoint_refused k w) other = w.files
+    at_served (want_of_memory k w) other = w.files

@@ -21,6 +21,11 @@ pub record Run : Type 0 where
   pub stopper : Change StopperState
   pub shares : List ℕ
 
+-- a run, from what its objects tell of themselves before and after it
+abbrev pub run_of : List (List ℕ) → Change FilesState → Change SinkState → Change SinkState → Change StopperState → List ℕ → Run
+run_of words files out err stopper shares =
+    record { words = words; files = files; out = out; err = err; stopper = stopper; shares = shares }
+
 -- nothing was summed, nothing was printed, and nobody asked for a stop
 pub record IsIdle (run : Run) : Type 0 where
   pub out : Unchanged run.out

@@ -14,15 +14,15 @@ use Rattle.report.specs.Report.{done_status}
 use Rattle.report.specs.Texts.{done_text, no_inverse_text}
 use Rattle.checkpoint.specs.States.{StateView, IsState, IsTrueState}
 use Rattle.checkpoint.specs.Texts.{IsTextOf, text_in}
-use Rattle.rounds.specs.Outcomes.{IsSummed, IsProgress}
+use Rattle.rounds.specs.Outcomes.{IsSummed, IsPaused, IsProgress}
 use Rattle.rounds.specs.declared.progress.Outcome.{Outcome}
 use Rattle.rounds.specs.Rounds.{budget_end}
 use Rattle.command_line.specs.Requests.{Request, Sum, run, resume, make}
 use Rattle.locus_core.specs.Words.{AsksFor}
 use Rattle.locus_core.specs.Outside.{Unchanged, HasStopped, Takes, BreaksOff}
 use Rattle.locus_core.specs.Begins.{Beginning, Begins, IsTrueBeginning}
-use Rattle.locus_core.specs.Comes.{file_of_request, state_at}
-use Rattle.locus_core.specs.Ends.{Run}
+use Rattle.locus_core.specs.Comes.{IsAnswer, file_of_request, stop_file_of, state_at}
+use Rattle.locus_core.specs.Ends.{Run, Printed, WordsRefused, ProblemRefused, CheckpointRefused, ReadFault, WriteFault, WantOfMemory}
 
 -- done, with a fraction for each integral or without one for some integral
 abbrev pub IsDoneStatus : ℕ → Type 0
@@ -59,12 +59,6 @@ abbrev pub NeedsItsFile : Run → ℕ → Type 0
 NeedsItsFile r n = IfSome r.files.before.content (λ told. (request : Request) (name : List ℕ) → AsksFor r.words request
     → file_of_request request ≡ Some name → file_of name told ≡ None → (n ≡ 6) ⊎ (n ≡ 9))
 
--- Of a `run` whose bytes write this problem: if the whole text of its sum is printed, some decorated tree is bad exactly
--- if the status is 4.
-abbrev pub NamesBadTrees : Run → ℕ → Type 0
-NamesBadTrees r n = IfSome r.files.before.content (λ told. (s : Sum) (bytes : List ℕ) (p : ProblemView) → AsksOf r told (run s) bytes
-    → reading bytes ≡ Ok p → IsDoneStatus n ⊎ (n ≡ 4) → ((n ≡ 4) ↔ HasBadTree p))
-
 -- some number from next on, below an end, is bad
 abbrev pub HasBadNumber : ProblemView → ℕ → ℕ → Type 0
 HasBadNumber p next end = (number : ℕ) × (next ≤ number) × (number < end) × (is_bad_of p number ≡ true)
@@ -83,6 +77,12 @@ IsStatusOf b n = ((n ≡ 4) × HasBadNumber b.sum.problem b.sum.next (end_of b))
 -- the files tell what they hold, or none is asked for
 abbrev pub KnowsItsFile : Run → Request → Type 0
 KnowsItsFile r request = IsSome r.files.before.content ⊎ (file_of_request request ≡ None)
+
+-- Of a sum that is begun anew, or with true residues: if its whole text is printed, some decorated tree is bad exactly if
+-- the status is 4.
+abbrev pub NamesBadTrees : Run → ℕ → Type 0
+NamesBadTrees r n = IsDoneStatus n ⊎ (n ≡ 4) → (request : Request) (b : Beginning) → AsksFor r.words request
+    → KnowsItsFile r request → Begins r.files request b → IsTrueBeginning b → ((n ≡ 4) ↔ HasBadTree b.sum.problem)
 
 -- A sum that is begun, if neither the files nor the output count a fault and nobody asks for a stop, has its status, but
 -- for want of memory.
@@ -103,6 +103,19 @@ abbrev pub MakesProblem : Run → ℕ → Type 0
 MakesProblem r n = (number : ℕ) → AsksFor r.words (make number)
     → ((n ≡ 0) × Makes r number) ⊎ ((n ≡ 7) × Rose r.out.before.faults r.out.after.faults) ⊎ (n ≡ 9)
 
+-- the words name a stop file, and a stop was counted under its name
+pub record HasStopFile (r : Run) : Type 0 where
+  pub request : Request
+  pub words : AsksFor r.words request
+  pub name : List ℕ
+  pub named : stop_file_of request ≡ Some name
+  pub stopped : HasStopped r.stopper name
+
+-- Either nobody asked for a stop, or one was asked for under the name of the stop file. Then the sum pauses there: status 5
+-- comes, unless the checkpoint is not taken whole or memory is refused.
+abbrev pub HeedsStops : Run → ℕ → Type 0
+HeedsStops r n = Unchanged r.stopper ⊎ (HasStopFile r × ((n ≡ 5) ⊎ (n ≡ 7) ⊎ (n ≡ 9)))
+
 -- ---- what was printed
 -- a sum was begun that the words ask for
 pub record HasBegun (r : Run) (b : Beginning) : Type 0 where
@@ -112,7 +125,8 @@ pub record HasBegun (r : Run) (b : Beginning) : Type 0 where
 
 -- The sums over all numbers from the first on were printed, for each integral its residues and the only fraction within
 -- the bounds that agrees with them, or that there is none. If no tree was summed before, or the residues so far were true,
--- the residues are those of Kontsevich's sums over all decorated trees, and a fraction within the bounds is the sum.
+-- no decorated tree is bad, the residues are those of Kontsevich's sums over all decorated trees, and a fraction within
+-- the bounds is the sum.
 pub record PrintsSums (r : Run) (n : ℕ) : Type 0 where
   pub beginning : Beginning
   pub residues : List ℕ
@@ -121,63 +135,81 @@ pub record PrintsSums (r : Run) (n : ℕ) : Type 0 where
   pub summed : IsSummed beginning.sum (count_of beginning.sum.problem) residues
   pub agree : AreFractions beginning.sum.problem residues fractions
   pub status : n ≡ done_status fractions
+  pub none_bad : IsTrueBeginning beginning → ¬ HasBadTree beginning.sum.problem
   pub truth : IsTrueBeginning beginning → AreKontsevichSums beginning.sum.problem residues
   pub found : IsTrueBeginning beginning → FindSums beginning.sum.problem fractions
+  pub stopper : Unchanged r.stopper
   pub out : Takes r.out (beginning.heading ++ done_text beginning.sum.problem residues fractions)
 
+-- the words ask for the text of a generated problem
+abbrev pub IsMaking : Run → Type 0
+IsMaking r = (number : ℕ) × AsksFor r.words (make number)
+
+-- what a done sum has printed
+abbrev pub PrintsItsSums : Run → ℕ → Type 0
+PrintsItsSums r n = ¬ IsMaking r → IsDoneStatus n → PrintsSums r n
+
 -- The least bad number from the first on was printed, with the first modulus for which it is bad and its tree. If no tree
--- was summed before, no decorated tree that is bad has a smaller number.
+-- was summed before, or the residues so far were true, no decorated tree that is bad has a smaller number.
 pub record NamesLeast (r : Run) : Type 0 where
   pub beginning : Beginning
   pub number : ℕ
-  pub modulus : ℕ
+  pub index : ℕ
   pub begun : HasBegun r beginning
   pub least : IsLeastBad (is_bad_of beginning.sum.problem) beginning.sum.next (count_of beginning.sum.problem) number
-  pub first : IsFirstBad (is_bad_modulo beginning.sum.problem number) beginning.sum.problem.moduli modulus
-  pub of_all : beginning.sum.next ≡ 0 → IsNoInverse beginning.sum.problem number modulus
-  pub out : Takes r.out (beginning.heading ++ no_inverse_text beginning.sum.problem number modulus)
+  pub first : IsFirstBad (is_bad_modulo beginning.sum.problem number) beginning.sum.problem.moduli index
+  pub of_all : IsTrueBeginning beginning → IsNoInverse beginning.sum.problem number index
+  pub stopper : Unchanged r.stopper
+  pub out : Takes r.out (beginning.heading ++ no_inverse_text beginning.sum.problem number index)
 
 -- A checkpoint was printed, and nothing else: the text of a state of the same source, whose residues grew by those of
--- exactly the numbers before its next one. True residues stay true. It stands where the budget ends, or a stop was asked
--- for under the name of the stop file.
+-- exactly the numbers before its next one. True residues stay true. It stands after some rounds, where the budget ends, or
+-- where a stop was asked for under the name of the stop file.
 pub record PrintsCheckpoint (r : Run) : Type 0 where
   pub beginning : Beginning
   pub source : List ℕ
+  pub rounds : ℕ
   pub next : ℕ
   pub residues : List ℕ
   pub begun : HasBegun r beginning
   pub same_source : beginning.source ≡ Some source
   pub state : IsState (state_at source beginning next residues)
-  pub summed : IsSummed beginning.sum next residues
+  pub paused : IsPaused beginning.sum beginning.plan.budget rounds next residues
   pub truth : IsTrueBeginning beginning → IsTrueState (state_at source beginning next residues)
   pub cause : ((next ≡ end_of beginning) × Unchanged r.stopper)
-      ⊎ (IsSome beginning.plan.stop_file × IfSome beginning.plan.stop_file (λ name. HasStopped r.stopper name))
+      ⊎ ((next < end_of beginning) × IsSome beginning.plan.stop_file
+      × IfSome beginning.plan.stop_file (λ name. HasStopped r.stopper name))
   pub out : Takes r.out (text_in 2 (state_at source beginning next residues))
 
--- The rounds that were run have an outcome; each worker has a share, and the shares add up to the blocks of these rounds.
-pub record SharesBlocks (r : Run) : Type 0 where
+-- The rounds that were run have an outcome, whose text was printed, or a prefix of it at status 7. Each worker has a share,
+-- and the shares add up to the blocks of these rounds.
+pub record SharesBlocks (r : Run) (n : ℕ) : Type 0 where
   pub beginning : Beginning
   pub outcome : Outcome
+  pub status : ℕ
+  pub text : List ℕ
   pub begun : HasBegun r beginning
   pub progress : IsProgress beginning.sum beginning.plan.budget beginning.plan.workers (record { outcome = outcome; shares = r.shares })
+  pub answer : IsAnswer beginning outcome status text
+  pub out : ((n ≡ status) × Takes r.out text) ⊎ ((n ≡ 7) × BreaksOff r.out text)
 
--- the words ask for no text of a problem
-abbrev pub AsksNoText : Run → Type 0
-AsksNoText r = (number : ℕ) → ¬ AsksFor r.words (make number)
-
--- nothing of a sum is printed
-abbrev pub IsRefusedStatus : ℕ → Type 0
-IsRefusedStatus n = (n ≡ 2) ⊎ (n ≡ 3) ⊎ (n ≡ 6) ⊎ (n ≡ 8) ⊎ (n ≡ 9)
+-- nothing goes to the output
+abbrev pub IsSilentStatus : ℕ → Type 0
+IsSilentStatus n = (n ≡ 2) ⊎ (n ≡ 3) ⊎ (n ≡ 6) ⊎ (n ≡ 8) ⊎ (n ≡ 9)
 
 -- of a sum that was printed, or of which a prefix was, the shares are those of its rounds; otherwise there are none
 abbrev pub ClaimsBlocks : Run → ℕ → Type 0
-ClaimsBlocks r n = (AsksNoText r → IsPrintedStatus n ⊎ (n ≡ 7) → SharesBlocks r) × (IsRefusedStatus n → r.shares ≡ [])
+ClaimsBlocks r n = (IsMaking r ⊎ SharesBlocks r n ⊎ IsSilentStatus n) × (IsMaking r ⊎ IsSilentStatus n → r.shares ≡ [])
 
--- What was written: at the statuses of a printed text that text, whole, and nothing to standard error; at 7 a prefix of a
--- text; at the others nothing to the output. The files count a fault exactly at status 6.
+-- What was written, and where, for each status. Nothing goes to the output at the statuses that print no text, and the
+-- files count a fault at status 6 alone.
 pub record WritesBytes (r : Run) (n : ℕ) : Type 0 where
-  pub printed : IsPrintedStatus n → ((text : List ℕ) × Takes r.out text) × Unchanged r.err
-  pub broken : n ≡ 7 → (text : List ℕ) × BreaksOff r.out text
-  pub refused : IsRefusedStatus n → Unchanged r.out
+  pub printed : IsPrintedStatus n → Printed r n
+  pub words_refused : n ≡ 2 → WordsRefused r
+  pub problem_refused : n ≡ 3 → ProblemRefused r
+  pub read_fault : n ≡ 6 → ReadFault r
+  pub write_fault : n ≡ 7 → WriteFault r
+  pub checkpoint_refused : n ≡ 8 → CheckpointRefused r
+  pub want_of_memory : n ≡ 9 → WantOfMemory r
+  pub silent : IsSilentStatus n → Unchanged r.out
   pub served : n ≢ 6 → Unchanged r.files
-  pub fault : n ≡ 6 → Rose r.files.before.faults r.files.after.faults

@@ -5,4 +5,5 @@ pub mod Begins
 pub mod Comes
 pub mod Ends
 pub mod Headline
+pub mod Chains
 pub mod Steps

@@ -3,9 +3,10 @@
 ghost use Rattle.std.specs.Prelude.{◌≡◌, ◌↔◌, codes, map, string_bytes, []};
 ghost use Rattle.locus_core.specs.Outside.{files_change, sink_change, stopper_change, Tells};
 ghost use Rattle.locus_core.specs.Words.{AskNothing};
-ghost use Rattle.locus_core.specs.Ends.{Ends};
-ghost use Rattle.locus_core.specs.Headline.{IsStatus, Accepts, NamesBadTrees, NeedsItsFile, IsDecided, MakesProblem};
-ghost use Rattle.locus_core.specs.Headline.{IsDoneStatus, AsksNoText, PrintsSums, NamesLeast, PrintsCheckpoint, ClaimsBlocks, WritesBytes};
+ghost use Rattle.locus_core.specs.Ends.{run_of, Ends};
+ghost use Rattle.locus_core.specs.Headline.{IsStatus, Accepts, NamesBadTrees, NeedsItsFile, IsDecided, HeedsStops, MakesProblem};
+ghost use Rattle.locus_core.specs.Headline.{PrintsItsSums, NamesLeast, PrintsCheckpoint, ClaimsBlocks, WritesBytes};
+ghost use Rattle.locus_core.specs.Chains.{EndsItsChains};
 
 use crate::printing::{end as end_with, print, refuse};
 use crate::words::refuse_words as refuse_read_words;
@@ -23,8 +24,8 @@ pub struct Answer {
     /// integral; 2 words refused; 3 problem refused; 4 no inverse; 5 paused; 6 read fault; 7 write fault; 8 checkpoint
     /// refused; 9 want of memory.
     pub status: u8,
-    /// How many blocks of 64 trees each worker worked. There are none if nothing was summed, or nothing of it was printed
-    /// for want of memory.
+    /// How many blocks of 64 trees each worker worked, one number for each worker: 0 for each if no tree was left to sum.
+    /// There are no numbers if no sum was begun, or nothing of it was printed for want of memory.
     pub shares: Shares,
 }
 
@@ -39,14 +40,11 @@ fn end<R: Threads + Sync, F: Files, O: Sink, E: Sink, S: Stopper, G: Gate>(
     stopper: &mut S,
     gate: &G,
 ) -> Answer
-    ensures { Ends (record {
-      words = map string_bytes words.now;
-      files = files_change F.content F.faults F.last_fault files.old files.new;
-      out = sink_change O.written O.is_flushed O.faults out.old out.new;
-      err = sink_change E.written E.is_flushed E.faults err.old err.new;
-      stopper = stopper_change S.stops S.last_stop stopper.old stopper.new;
-      shares = result.shares;
-    }) result.status }
+    ensures { Ends (run_of (map string_bytes words.now)
+        (files_change F.content F.faults F.last_fault files.old files.new)
+        (sink_change O.written O.is_flushed O.faults out.old out.new)
+        (sink_change E.written E.is_flushed E.faults err.old err.new)
+        (stopper_change S.stops S.last_stop stopper.old stopper.new) result.shares) result.status }
 {
     let command = match read(alloc, Commands::Built, words) {
         Ok(command) => command,
@@ -73,14 +71,11 @@ pub fn locus<R: Threads + Sync, F: Files, O: Sink, E: Sink, S: Stopper, G: Gate>
     stopper: &mut S,
     gate: &G,
 ) -> Answer
-    ensures ends { Ends (record {
-      words = map string_bytes words.now;
-      files = files_change F.content F.faults F.last_fault files.old files.new;
-      out = sink_change O.written O.is_flushed O.faults out.old out.new;
-      err = sink_change E.written E.is_flushed E.faults err.old err.new;
-      stopper = stopper_change S.stops S.last_stop stopper.old stopper.new;
-      shares = result.shares;
-    }) result.status }
+    ensures ends { Ends (run_of (map string_bytes words.now)
+        (files_change F.content F.faults F.last_fault files.old files.new)
+        (sink_change O.written O.is_flushed O.faults out.old out.new)
+        (sink_change E.written E.is_flushed E.faults err.old err.new)
+        (stopper_change S.stops S.last_stop stopper.old stopper.new) result.shares) result.status }
 
     // No other status comes. Status 9 is want of memory, and no clause says when memory is refused.
     ensures known { IsStatus result.status }
@@ -90,114 +85,94 @@ pub fn locus<R: Threads + Sync, F: Files, O: Sink, E: Sink, S: Stopper, G: Gate>
 
     // If the file was read, its bytes decide whether they are refused: for `run` status 3 comes exactly if they write no
     // problem, and for `resume` status 8 exactly if they are the text of no state.
-    ensures accepted { Accepts (record {
-      words = map string_bytes words.now;
-      files = files_change F.content F.faults F.last_fault files.old files.new;
-      out = sink_change O.written O.is_flushed O.faults out.old out.new;
-      err = sink_change E.written E.is_flushed E.faults err.old err.new;
-      stopper = stopper_change S.stops S.last_stop stopper.old stopper.new;
-      shares = result.shares;
-    }) result.status }
+    ensures accepted { Accepts (run_of (map string_bytes words.now)
+        (files_change F.content F.faults F.last_fault files.old files.new)
+        (sink_change O.written O.is_flushed O.faults out.old out.new)
+        (sink_change E.written E.is_flushed E.faults err.old err.new)
+        (stopper_change S.stops S.last_stop stopper.old stopper.new) result.shares) result.status }
 
-    // Of a `run` whose file was read and accepted: if the text of its sum was printed whole, status 4 comes exactly if some
+    // Of a sum that is begun anew, or with true residues: if its text was printed whole, status 4 comes exactly if some
     // decorated tree is bad.
-    ensures bad { NamesBadTrees (record {
-      words = map string_bytes words.now;
-      files = files_change F.content F.faults F.last_fault files.old files.new;
-      out = sink_change O.written O.is_flushed O.faults out.old out.new;
-      err = sink_change E.written E.is_flushed E.faults err.old err.new;
-      stopper = stopper_change S.stops S.last_stop stopper.old stopper.new;
-      shares = result.shares;
-    }) result.status }
+    ensures bad { NamesBadTrees (run_of (map string_bytes words.now)
+        (files_change F.content F.faults F.last_fault files.old files.new)
+        (sink_change O.written O.is_flushed O.faults out.old out.new)
+        (sink_change E.written E.is_flushed E.faults err.old err.new)
+        (stopper_change S.stops S.last_stop stopper.old stopper.new) result.shares) result.status }
 
     // If the file that is asked for is not there, the run ends with a read fault, but for want of memory.
-    ensures absent { NeedsItsFile (record {
-      words = map string_bytes words.now;
-      files = files_change F.content F.faults F.last_fault files.old files.new;
-      out = sink_change O.written O.is_flushed O.faults out.old out.new;
-      err = sink_change E.written E.is_flushed E.faults err.old err.new;
-      stopper = stopper_change S.stops S.last_stop stopper.old stopper.new;
-      shares = result.shares;
-    }) result.status }
+    ensures absent { NeedsItsFile (run_of (map string_bytes words.now)
+        (files_change F.content F.faults F.last_fault files.old files.new)
+        (sink_change O.written O.is_flushed O.faults out.old out.new)
+        (sink_change E.written E.is_flushed E.faults err.old err.new)
+        (stopper_change S.stops S.last_stop stopper.old stopper.new) result.shares) result.status }
 
     // If neither the files nor the output count a fault and nobody asks for a stop, a sum that is begun has the status of
     // its numbers within the budget, but for want of memory: 4 if one of them is bad; otherwise 5 if trees are left, and 0
     // or 1 if none is.
-    ensures decided { IsDecided (record {
-      words = map string_bytes words.now;
-      files = files_change F.content F.faults F.last_fault files.old files.new;
-      out = sink_change O.written O.is_flushed O.faults out.old out.new;
-      err = sink_change E.written E.is_flushed E.faults err.old err.new;
-      stopper = stopper_change S.stops S.last_stop stopper.old stopper.new;
-      shares = result.shares;
-    }) result.status }
+    ensures decided { IsDecided (run_of (map string_bytes words.now)
+        (files_change F.content F.faults F.last_fault files.old files.new)
+        (sink_change O.written O.is_flushed O.faults out.old out.new)
+        (sink_change E.written E.is_flushed E.faults err.old err.new)
+        (stopper_change S.stops S.last_stop stopper.old stopper.new) result.shares) result.status }
+
+    // If somebody asks for a stop under the name of the stop file, the sum pauses: status 5, unless the checkpoint is not taken
+    // whole or memory is refused. Nobody else stops a sum.
+    ensures stops { HeedsStops (run_of (map string_bytes words.now)
+        (files_change F.content F.faults F.last_fault files.old files.new)
+        (sink_change O.written O.is_flushed O.faults out.old out.new)
+        (sink_change E.written E.is_flushed E.faults err.old err.new)
+        (stopper_change S.stops S.last_stop stopper.old stopper.new) result.shares) result.status }
 
     // At status 0 and 1, but for `make`, the residues of all trees and the only fractions that agree with them are printed.
-    ensures residues { AsksNoText (record {
-      words = map string_bytes words.now;
-      files = files_change F.content F.faults F.last_fault files.old files.new;
-      out = sink_change O.written O.is_flushed O.faults out.old out.new;
-      err = sink_change E.written E.is_flushed E.faults err.old err.new;
-      stopper = stopper_change S.stops S.last_stop stopper.old stopper.new;
-      shares = result.shares;
-    }) → IsDoneStatus result.status → PrintsSums (record {
-      words = map string_bytes words.now;
-      files = files_change F.content F.faults F.last_fault files.old files.new;
-      out = sink_change O.written O.is_flushed O.faults out.old out.new;
-      err = sink_change E.written E.is_flushed E.faults err.old err.new;
-      stopper = stopper_change S.stops S.last_stop stopper.old stopper.new;
-      shares = result.shares;
-    }) result.status }
+    ensures residues { PrintsItsSums (run_of (map string_bytes words.now)
+        (files_change F.content F.faults F.last_fault files.old files.new)
+        (sink_change O.written O.is_flushed O.faults out.old out.new)
+        (sink_change E.written E.is_flushed E.faults err.old err.new)
+        (stopper_change S.stops S.last_stop stopper.old stopper.new) result.shares) result.status }
 
     // At status 4 the least bad number from the first on is named, with its first modulus and its tree.
-    ensures refusal { result.status ≡ 4 → NamesLeast (record {
-      words = map string_bytes words.now;
-      files = files_change F.content F.faults F.last_fault files.old files.new;
-      out = sink_change O.written O.is_flushed O.faults out.old out.new;
-      err = sink_change E.written E.is_flushed E.faults err.old err.new;
-      stopper = stopper_change S.stops S.last_stop stopper.old stopper.new;
-      shares = result.shares;
-    }) }
+    ensures refusal { result.status ≡ 4 → NamesLeast (run_of (map string_bytes words.now)
+        (files_change F.content F.faults F.last_fault files.old files.new)
+        (sink_change O.written O.is_flushed O.faults out.old out.new)
+        (sink_change E.written E.is_flushed E.faults err.old err.new)
+        (stopper_change S.stops S.last_stop stopper.old stopper.new) result.shares) }
 
     // At status 5 a checkpoint is printed, which a later run resumes.
-    ensures pause { result.status ≡ 5 → PrintsCheckpoint (record {
-      words = map string_bytes words.now;
-      files = files_change F.content F.faults F.last_fault files.old files.new;
-      out = sink_change O.written O.is_flushed O.faults out.old out.new;
-      err = sink_change E.written E.is_flushed E.faults err.old err.new;
-      stopper = stopper_change S.stops S.last_stop stopper.old stopper.new;
-      shares = result.shares;
-    }) }
+    ensures pause { result.status ≡ 5 → PrintsCheckpoint (run_of (map string_bytes words.now)
+        (files_change F.content F.faults F.last_fault files.old files.new)
+        (sink_change O.written O.is_flushed O.faults out.old out.new)
+        (sink_change E.written E.is_flushed E.faults err.old err.new)
+        (stopper_change S.stops S.last_stop stopper.old stopper.new) result.shares) }
 
-    // Each worker has a share, and the shares add up to the blocks of the rounds that were run.
-    ensures claims { ClaimsBlocks (record {
-      words = map string_bytes words.now;
-      files = files_change F.content F.faults F.last_fault files.old files.new;
-      out = sink_change O.written O.is_flushed O.faults out.old out.new;
-      err = sink_change E.written E.is_flushed E.faults err.old err.new;
-      stopper = stopper_change S.stops S.last_stop stopper.old stopper.new;
-      shares = result.shares;
-    }) result.status }
+    // Whatever the budgets, the workers and the stops of the runs before: if this run resumes what the last of them printed,
+    // and so on down to a run of a problem text, it prints Kontsevich's sums of that problem over all decorated trees, or
+    // the least of them that is bad, or the checkpoint of a true state.
+    ensures chains { EndsItsChains (run_of (map string_bytes words.now)
+        (files_change F.content F.faults F.last_fault files.old files.new)
+        (sink_change O.written O.is_flushed O.faults out.old out.new)
+        (sink_change E.written E.is_flushed E.faults err.old err.new)
+        (stopper_change S.stops S.last_stop stopper.old stopper.new) result.shares) result.status }
 
-    // What goes to the output, and when the files count a fault.
-    ensures bytes { WritesBytes (record {
-      words = map string_bytes words.now;
-      files = files_change F.content F.faults F.last_fault files.old files.new;
-      out = sink_change O.written O.is_flushed O.faults out.old out.new;
-      err = sink_change E.written E.is_flushed E.faults err.old err.new;
-      stopper = stopper_change S.stops S.last_stop stopper.old stopper.new;
-      shares = result.shares;
-    }) result.status }
+    // Each worker has a share, and the shares add up to the blocks of the rounds whose outcome was printed.
+    ensures claims { ClaimsBlocks (run_of (map string_bytes words.now)
+        (files_change F.content F.faults F.last_fault files.old files.new)
+        (sink_change O.written O.is_flushed O.faults out.old out.new)
+        (sink_change E.written E.is_flushed E.faults err.old err.new)
+        (stopper_change S.stops S.last_stop stopper.old stopper.new) result.shares) result.status }
+
+    // What goes to the output and to standard error at each status, and when the files count a fault.
+    ensures bytes { WritesBytes (run_of (map string_bytes words.now)
+        (files_change F.content F.faults F.last_fault files.old files.new)
+        (sink_change O.written O.is_flushed O.faults out.old out.new)
+        (sink_change E.written E.is_flushed E.faults err.old err.new)
+        (stopper_change S.stops S.last_stop stopper.old stopper.new) result.shares) result.status }
 
     // `make` prints a text that reads as the generated problem, but for a fault of the output and want of memory.
-    ensures make { MakesProblem (record {
-      words = map string_bytes words.now;
-      files = files_change F.content F.faults F.last_fault files.old files.new;
-      out = sink_change O.written O.is_flushed O.faults out.old out.new;
-      err = sink_change E.written E.is_flushed E.faults err.old err.new;
-      stopper = stopper_change S.stops S.last_stop stopper.old stopper.new;
-      shares = result.shares;
-    }) result.status }
+    ensures make { MakesProblem (run_of (map string_bytes words.now)
+        (files_change F.content F.faults F.last_fault files.old files.new)
+        (sink_change O.written O.is_flushed O.faults out.old out.new)
+        (sink_change E.written E.is_flushed E.faults err.old err.new)
+        (stopper_change S.stops S.last_stop stopper.old stopper.new) result.shares) result.status }
 {
     end(rt, alloc, words, files, out, err, stopper, gate)
 }
