@@ -106,7 +106,7 @@ no_less p number rules least g i bad =
     ⊎_elim (λ l. absurd (least.least (number_of p.shape g) (omega arith) l n.1)) (λ h. h) (cases_lt (number_of p.shape g) number)
 
 of_all_trees : (p : ProblemView) (number modulus : ℕ) → KeepsRules p → IsLeastBad (is_bad_of p) 0 (count_of p) number
-    → IsFirstBad (is_bad_modulo p number) p.moduli modulus → outcome.IsNoInverse p number modulus
+    → IsFirstBad (is_bad_modulo p number) p.moduli modulus → outcome.LacksInverse p number modulus
 of_all_trees p number modulus rules least first = record {
   least = least;
   first = first;
