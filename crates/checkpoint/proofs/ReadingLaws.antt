@@ -6,7 +6,7 @@ use Rattle.std.proofs.lemmas.Bool.{ltb-true, ltb-false, lt-ltb, le-ltb}
 use Rattle.sha2.specs.Sha256.{sha256}
 use Rattle.problem.specs.Sums.{count_of}
 use Rattle.checkpoint.specs.Readers.{written_at, state_of, short_reading, checkpoint_reading}
-use Rattle.checkpoint.specs.Refusals.{Fits, IsKnownVersion, Writes, IsFirstCount, IsRefusal}
+use Rattle.checkpoint.specs.Refusals.{Fits, IsKnownVersion, Writes, IsFirstCount, IsCheckpointRefusal}
 use Rattle.checkpoint.specs.States.{StateView, IsState}
 use Rattle.checkpoint.specs.Steps.{◌>>=◌, Gives}
 use Rattle.checkpoint.specs.Texts.{Contents, IsTextOf}
@@ -31,11 +31,11 @@ read_found text s h =
           state_ok text b.0 s (written_ok text b.0 (ltb-false _ _ short.0) b.1) b.2
     ]
 
-pub read_refused : (text : List ℕ) (e : CheckpointError) → checkpoint_reading text ≡ Err e → IsRefusal text e
+pub read_refused : (text : List ℕ) (e : CheckpointError) → checkpoint_reading text ≡ Err e → IsCheckpointRefusal text e
 unfolding checkpoint_reading short_reading
 read_refused text e h =
     elim (chosen (ltb 1052672 (length text)) (Err TooLong) (written_at text >>= (λ c. state_of c)) (Err e) h) [
-      | inl long ↦ subst (IsRefusal text) (same_err {A = StateView} TooLong e long.1) (ltb-true _ _ long.0)
+      | inl long ↦ subst (IsCheckpointRefusal text) (same_err {A = StateView} TooLong e long.1) (ltb-true _ _ long.0)
       | inr short ↦
           let fits = ltb-false _ _ short.0 in
           elim (bind_err (written_at text) (λ c. state_of c) e short.1) [
@@ -62,7 +62,7 @@ too_long : (text : List ℕ) → 1052672 < length text → checkpoint_reading te
 unfolding checkpoint_reading
 too_long text h = let long : ltb 1052672 (length text) ≡ true = lt-ltb _ _ h in rw long refl
 
-pub refusal_is_read : (text : List ℕ) (e : CheckpointError) → IsRefusal text e → checkpoint_reading text ≡ Err e
+pub refusal_is_read : (text : List ℕ) (e : CheckpointError) → IsCheckpointRefusal text e → checkpoint_reading text ≡ Err e
 refusal_is_read text NoMemory r = absurd r
 refusal_is_read text TooLong r = too_long text r
 refusal_is_read text NotCheckpoint r = early text NotCheckpoint r.0 (written_without_parts text r.1)
@@ -116,11 +116,11 @@ module _ (result : Result StateView CheckpointError) (text : List ℕ) (gives : 
       go (Ok s) h = read_found text s h
       go (Err e) h = tt
 
-  pub gives_refusal : IfErr result (λ e. e ≢ NoMemory → IsRefusal text e)
+  pub gives_refusal : IfErr result (λ e. e ≢ NoMemory → IsCheckpointRefusal text e)
   gives_refusal = go result gives
     where
       go : (r : Result StateView CheckpointError) → Gives (λ s. s) r (checkpoint_reading text)
-          → IfErr r (λ e. e ≢ NoMemory → IsRefusal text e)
+          → IfErr r (λ e. e ≢ NoMemory → IsCheckpointRefusal text e)
       go (Ok s) h = tt
       go (Err e) h = λ known. read_refused text e (h known)
 

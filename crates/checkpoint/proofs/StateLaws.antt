@@ -9,7 +9,7 @@ use Rattle.problem.specs.Sums.{count_of}
 use Rattle.problem_toml.specs.Reading.{reading}
 use Rattle.problem_toml.specs.declared.error.ProblemError.{ProblemError}
 use Rattle.checkpoint.specs.Readers.{problem_of, shown_count, counts_fit, residues_fit, state_of}
-use Rattle.checkpoint.specs.Refusals.{Writes, WritesFor, HasNext, HasRows, HasResidues, IsFirstCount, IsFirstRefused, IsRefusal}
+use Rattle.checkpoint.specs.Refusals.{Writes, WritesFor, HasNext, HasRows, HasResidues, IsFirstCount, IsFirstRefused, IsCheckpointRefusal}
 use Rattle.checkpoint.specs.States.{StateView}
 use Rattle.checkpoint.specs.Steps.{◌>>=◌, keep}
 use Rattle.checkpoint.specs.Texts.{Contents, rows_of, text_of, text_in, IsTextOf}
@@ -123,23 +123,23 @@ state_ok text c s w h =
     (text_of_state text c p w (eqb-true _ _ k2.0) (counts_fit_each (length p.moduli) c.rows b.1))
 
 pub state_err : (text : List ℕ) (c : Contents) (e : CheckpointError) → Writes text c → state_of c ≡ Err e
-    → IsRefusal text e
+    → IsCheckpointRefusal text e
 unfolding state_of
 state_err text c e w h =
     let size = sizes text c w in
     elim (bind_err (problem_of (reading c.source)) (next_rules c) e h) [
       | inl fault ↦
           let why = problem_err (reading c.source) e fault in
-          subst (IsRefusal text) why.2 (c, w, why.1)
+          subst (IsCheckpointRefusal text) why.2 (c, w, why.1)
       | inr a ↦
           let p = a.0 in
           let for : WritesFor p text c = record { writes = w; problem = problem_ok (reading c.source) p a.1 } in
           elim (keep_err (leb c.next (count_of p)) (NextTooLarge c.next (count_of p)) e (line_rules c p) a.2) [
-            | inl large ↦ subst (IsRefusal text) large.1 (c, p, for, refl, refl, leb-false _ _ large.0)
+            | inl large ↦ subst (IsCheckpointRefusal text) large.1 (c, p, for, refl, refl, leb-false _ _ large.0)
             | inr k1 ↦
                 let next : HasNext p text c = record { written = for; next = leb-true _ _ k1.0 } in
                 elim (keep_err (eqb (length c.rows) (length p.integrals)) (LineCount (shown_count (length c.rows)) (length p.integrals)) e (count_rules c p) k1.1) [
-                  | inl lines ↦ subst (IsRefusal text) lines.1 (c, p, next, size.rows, refl, λ same. eqb-false _ _ lines.0 (sym size.rows ∙ same))
+                  | inl lines ↦ subst (IsCheckpointRefusal text) lines.1 (c, p, next, size.rows, refl, λ same. eqb-false _ _ lines.0 (sym size.rows ∙ same))
                   | inr k2 ↦
                       let rows : HasRows p text c = record { written = next; rows = eqb-true _ _ k2.0 } in
                       elim (bind_err (counts_fit (length p.moduli) c.rows) (λ _. last_rule c p) e k2.1) [
@@ -148,7 +148,7 @@ state_err text c e w h =
                             let first = other.first in
                             let shown : shown_count other.found ≡ other.found =
                             ap shown_count (sym first.count) ∙ size.row first.place ∙ first.count in
-                            subst (IsRefusal text)
+                            subst (IsCheckpointRefusal text)
                             (ap (λ (n : ℕ). ResidueCount n (length p.moduli)) (sym shown) ∙ sym other.is)
                             (c, p, rows, refl, first)
                         | inr b ↦
@@ -158,7 +158,7 @@ state_err text c e w h =
                                   let shown : above.place ≡ shown_count (0 + above.place) =
                                   sym (size.place above.place above.within) ∙ ap shown_count (omega arith) in
                                   let all : HasResidues p text c = record { written = rows; residues = counts_fit_each (length p.moduli) c.rows b.1 } in
-                                  subst (IsRefusal text) (ap (λ (n : ℕ). ResidueRefused n) shown ∙ sym above.is) (
+                                  subst (IsCheckpointRefusal text) (ap (λ (n : ℕ). ResidueRefused n) shown ∙ sym above.is) (
                                     c,
                                     p,
                                     all,

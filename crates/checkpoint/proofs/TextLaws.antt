@@ -9,7 +9,7 @@ use Rattle.std.proofs.lemmas.Slice.Eq.{bytes_eq-Decides}
 use Rattle.sha2.specs.Sha256.{sha256, digest_bytes, final_hash, initial_hash_256}
 use Rattle.sha2.proofs.Facts256.{length-sha256}
 use Rattle.checkpoint.specs.Readers.{number_line_at, unsealed_at, contents_at, sound_at, written_at, shown_count, residue_at, starts_with_space}
-use Rattle.checkpoint.specs.Refusals.{Fits, IsDigest, Parts, HasParts, IsKnownVersion, AreContents, Writes, IsRefusal}
+use Rattle.checkpoint.specs.Refusals.{Fits, IsDigest, Parts, HasParts, IsKnownVersion, AreContents, Writes, IsCheckpointRefusal}
 use Rattle.checkpoint.specs.Steps.{◌>>=◌, keep}
 use Rattle.checkpoint.specs.Texts.{Contents, number_line, source_text, residue_text, residue_line, body_of, seal}
 use Rattle.checkpoint.specs.declared.error.CheckpointError.{CheckpointError}
@@ -151,16 +151,16 @@ module _ (text : List ℕ) (fits : Fits text) (p : Parts) (has : HasParts text p
       let clash = sym h ∙ read in
       cc clash
 
-  sound_err : (e : CheckpointError) → sound_at p.kept p.body p.version p.rest ≡ Err e → IsRefusal text e
+  sound_err : (e : CheckpointError) → sound_at p.kept p.body p.version p.rest ≡ Err e → IsCheckpointRefusal text e
   unfolding sound_at
   sound_err e h =
       elim (keep_err (bytes_eq p.kept (sha256 p.body)) (Damaged p.kept (sha256 p.body)) e (keep (eqb p.version 1 || eqb p.version 2) (BadVersion p.version) >>= (λ _. contents_at p.version p.rest)) h) [
-        | inl damaged ↦ subst (IsRefusal text) damaged.1 (fits, p, has, refl, refl, λ same. both_ways _ damaged.0 ((bytes_eq-Decides p.kept (sha256 p.body)).1 same))
+        | inl damaged ↦ subst (IsCheckpointRefusal text) damaged.1 (fits, p, has, refl, refl, λ same. both_ways _ damaged.0 ((bytes_eq-Decides p.kept (sha256 p.body)).1 same))
         | inr kept ↦
             let sound = (bytes_eq-Decides p.kept (sha256 p.body)).0 kept.0 in
             elim (keep_err (eqb p.version 1 || eqb p.version 2) (BadVersion p.version) e (contents_at p.version p.rest) kept.1) [
-              | inl other ↦ subst (IsRefusal text) other.1 (fits, p, has, sound, refl, unknown_test p.version other.0)
-              | inr known ↦ subst (IsRefusal text) (sym (contents_err p.version p.rest e known.1)) (fits, p, has, sound, known_test p.version known.0, no_contents e known.1)
+              | inl other ↦ subst (IsCheckpointRefusal text) other.1 (fits, p, has, sound, refl, unknown_test p.version other.0)
+              | inr known ↦ subst (IsCheckpointRefusal text) (sym (contents_err p.version p.rest e known.1)) (fits, p, has, sound, known_test p.version known.0, no_contents e known.1)
             ]
       ]
 
@@ -196,20 +196,20 @@ written_ok text c fits h =
 some_none : {A : Type 0} (x : A) (o : Option A) → o ≡ Some x → o ≡ None → ⊥
 some_none x o h k = let clash = sym h ∙ k in cc clash
 
-pub written_err : (text : List ℕ) (e : CheckpointError) → Fits text → written_at text ≡ Err e → IsRefusal text e
+pub written_err : (text : List ℕ) (e : CheckpointError) → Fits text → written_at text ≡ Err e → IsCheckpointRefusal text e
 unfolding written_at
 written_err text e fits h =
     elim (bind_err (ok_or (unsealed_at text) NotCheckpoint) first_step e h) [
       | inl first ↦
           let none = ok_or_err _ _ _ first in
-          subst (IsRefusal text) none.1
+          subst (IsCheckpointRefusal text) none.1
           (fits, λ p has. some_none (p.body, p.kept) (unsealed_at text) (parts_sealed text p has) none.0)
       | inr a ↦
           elim (bind_err (ok_or (number_line_at (codes "locus-checkpoint ") a.0.0) NotCheckpoint) (λ first. sound_at a.0.1 a.0.0 first.0 first.1) e a.2) [
             | inl second ↦
                 let none = ok_or_err _ _ _ second in
                 let sealed = ok_or_ok _ _ _ a.1 in
-                subst (IsRefusal text) none.1 (
+                subst (IsCheckpointRefusal text) none.1 (
                   fits,
                   λ p has.
                       let same = some_pair_parts p.body a.0.0 p.kept a.0.1 (sym (parts_sealed text p has) ∙ sealed) in

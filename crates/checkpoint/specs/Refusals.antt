@@ -100,24 +100,24 @@ pub record IsFirstRefused (moduli residues : List ℕ) (place : ℕ) : Type 0 wh
 -- ---- the refusals
 
 -- this is the refusal of the text; want of memory is none
-abbrev pub IsRefusal : List ℕ → CheckpointError → Type 0
-IsRefusal text NoMemory = ⊥
-IsRefusal text TooLong = 1052672 < length text
-IsRefusal text NotCheckpoint = Fits text × ((p : Parts) → ¬ (HasParts text p))
-IsRefusal text (Damaged kept computed) = Fits text × (p : Parts) × HasParts text p
+abbrev pub IsCheckpointRefusal : List ℕ → CheckpointError → Type 0
+IsCheckpointRefusal text NoMemory = ⊥
+IsCheckpointRefusal text TooLong = 1052672 < length text
+IsCheckpointRefusal text NotCheckpoint = Fits text × ((p : Parts) → ¬ (HasParts text p))
+IsCheckpointRefusal text (Damaged kept computed) = Fits text × (p : Parts) × HasParts text p
     × (kept ≡ p.kept) × (computed ≡ sha256 p.body) × (kept ≢ computed)
-IsRefusal text (BadVersion version) = Fits text × (p : Parts) × HasParts text p × (p.kept ≡ sha256 p.body)
+IsCheckpointRefusal text (BadVersion version) = Fits text × (p : Parts) × HasParts text p × (p.kept ≡ sha256 p.body)
     × (version ≡ p.version) × ¬ (IsKnownVersion version)
-IsRefusal text BadBody = Fits text × (p : Parts) × HasParts text p × (p.kept ≡ sha256 p.body)
+IsCheckpointRefusal text BadBody = Fits text × (p : Parts) × HasParts text p × (p.kept ≡ sha256 p.body)
     × IsKnownVersion p.version × ((c : Contents) → AreContents c → p.body ≢ body_of c)
-IsRefusal text (ProblemRefused why) = (c : Contents) × Writes text c × (reading c.source ≡ Err why)
-IsRefusal text (NextTooLarge next count) = (c : Contents) × (p : ProblemView) × WritesFor p text c
+IsCheckpointRefusal text (ProblemRefused why) = (c : Contents) × Writes text c × (reading c.source ≡ Err why)
+IsCheckpointRefusal text (NextTooLarge next count) = (c : Contents) × (p : ProblemView) × WritesFor p text c
     × (next ≡ c.next) × (count ≡ count_of p) × (count < next)
-IsRefusal text (LineCount found wanted) = (c : Contents) × (p : ProblemView) × HasNext p text c
+IsCheckpointRefusal text (LineCount found wanted) = (c : Contents) × (p : ProblemView) × HasNext p text c
     × (found ≡ length c.rows) × (wanted ≡ length p.integrals) × (found ≢ wanted)
-IsRefusal text (ResidueCount found wanted) = (c : Contents) × (p : ProblemView) × HasRows p text c
+IsCheckpointRefusal text (ResidueCount found wanted) = (c : Contents) × (p : ProblemView) × HasRows p text c
     × (wanted ≡ length p.moduli) × IsFirstCount c.rows wanted found
-IsRefusal text (ResidueRefused place) = (c : Contents) × (p : ProblemView) × HasResidues p text c
+IsCheckpointRefusal text (ResidueRefused place) = (c : Contents) × (p : ProblemView) × HasResidues p text c
     × IsFirstRefused p.moduli (concat c.rows) place
 
 -- ---- what is printed

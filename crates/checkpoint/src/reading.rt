@@ -6,7 +6,7 @@ ghost use Rattle.problem.specs.Sums.{count_of};
 ghost use Rattle.problem_toml.specs.Reading.{reading};
 ghost use Rattle.checkpoint.specs.Bodies.{contents_of};
 ghost use Rattle.checkpoint.specs.Readers.{problem_of, state_of, short_reading, checkpoint_reading};
-ghost use Rattle.checkpoint.specs.Refusals.{IsRefusal};
+ghost use Rattle.checkpoint.specs.Refusals.{IsCheckpointRefusal};
 ghost use Rattle.checkpoint.specs.States.{StateView, IsState};
 ghost use Rattle.checkpoint.specs.Steps.{Gives};
 ghost use Rattle.checkpoint.specs.Texts.{IsTextOf};
@@ -95,10 +95,10 @@ pub fn read(alloc: Global, text: &[u8]) -> Result<State, CheckpointError>
     // What is read is a state with this text, and what is refused is refused for its first cause.
     ensures is_state { IfOk result IsState }
     ensures state { IfOk result (λ state. IsTextOf state text.now) }
-    ensures refusal { IfErr result (λ error. error ≢ CheckpointError.NoMemory → IsRefusal text.now error) }
+    ensures refusal { IfErr result (λ error. error ≢ CheckpointError.NoMemory → IsCheckpointRefusal text.now error) }
     // A text of a state is read as that state, and a text with a refusal is refused so, unless memory runs out.
     ensures only_state { (s : StateView) → IsState s → IsTextOf s text.now → Gives (λ state. state) result (Ok s) }
-    ensures only_refusal { (error : CheckpointError) → IsRefusal text.now error →
+    ensures only_refusal { (error : CheckpointError) → IsCheckpointRefusal text.now error →
         Gives (λ state. state) result (Err error) }
 {
     read_any_length(alloc, text)

@@ -14,7 +14,7 @@ use Rattle.claim_table.specs.declared.view.View.{View}
 use Rattle.claim_table.specs.Counts.{bit, total, nothing_bad}
 use Rattle.claim_table.specs.Claims.{fresh, with_taken, made_dry, with_reported, with_seen, taken_count, dry_count, takes_of}
 use Rattle.claim_table.specs.Views.{view, with_only, NewSeat, made_from, dealt_left, dealt_right, joined, spent}
-use Rattle.claim_table.specs.Cursor.{cursor, bad, itself, only, after_take, Holds, Takes, Reports, Sees, opening_view}
+use Rattle.claim_table.specs.Cursor.{cursor, bad, itself, only, after_take, CursorHolds, Takes, Reports, Sees, opening_view}
 use Rattle.claim_table.proofs.Lists.{times-append}
 use Rattle.claim_table.proofs.BadWord.{reports_to}
 use Rattle.claim_table.proofs.Views.{one, over, over_only, over_at, over_le, knows_blocks}
@@ -172,7 +172,7 @@ module _ (p : Plan) (words : List ℕ) (views : List (View Record)) (id : ℕ) (
 
 pub takes : (S : Type 0) (p : Plan) (slots id : ℕ) (me : Me S (View Record)) → length me.0.records ≡ 1
     → (only me.0).dry ≡ false
-    → Allows (Holds {S = S} p) slots id me 0 (λ n. (n + 1) % 2 ^ 64) (Takes (step slots 0 1 0 none) me)
+    → Allows (CursorHolds {S = S} p) slots id me 0 (λ n. (n + 1) % 2 ^ 64) (Takes (step slots 0 1 0 none) me)
 takes S p slots id me e wet s kept homes at fits =
     let h = counted p s.words s.views kept in
     let v : View Record = me.0 in
@@ -189,7 +189,7 @@ takes S p slots id me e wet s kept homes at fits =
     )
 
 pub reports : (S : Type 0) (p : Plan) (slots id : ℕ) (me : Me S (View Record)) (k : ℕ) → length me.0.records ≡ 1
-    → Allows (Holds {S = S} p) slots id me 1 (λ n. min n k) (Reports (step slots 1 k 0 none) me)
+    → Allows (CursorHolds {S = S} p) slots id me 1 (λ n. min n k) (Reports (step slots 1 k 0 none) me)
 reports S p slots id me k e s kept homes at fits = (
   with_only me.0 (with_reported (only me.0) k),
   keeps,
@@ -199,7 +199,7 @@ reports S p slots id me k e s kept homes at fits = (
 )
 
 pub sees : (S : Type 0) (p : Plan) (slots id : ℕ) (me : Me S (View Record)) → length me.0.records ≡ 1
-    → Allows (Holds {S = S} p) slots id me 1 (λ n. n) (Sees (step slots 1 0 0 none) me)
+    → Allows (CursorHolds {S = S} p) slots id me 1 (λ n. n) (Sees (step slots 1 0 0 none) me)
 sees S p slots id me e s kept homes at fits =
     let h = counted p s.words s.views kept in (
       with_only me.0 (with_seen (only me.0) (bad s.words)),
@@ -230,20 +230,20 @@ same_sums p words views now h same = record {
 }
 
 pub deals : (S : Type 0) (p : Plan) (id : ℕ) (v : View Record)
-    → Splits (Holds {S = S} p) id v (dealt_left v) (dealt_right v)
+    → Splits (CursorHolds {S = S} p) id v (dealt_left v) (dealt_right v)
 deals S p id v s kept at = claimed p _ _
     (same_sums p s.words s.views (set s.views id (dealt_left v) ++ dealt_right v ∷ [])
     (counted p s.words s.views kept) (dealt_same p.blocks s.views id v at))
 
 pub joins : (S : Type 0) (p : Plan) (id : ℕ) (v : View Record) (other : ℕ) (w : View Record)
-    → length w.records ≡ 1 → Joins (Holds {S = S} p) id v other w (joined v w) spent
+    → length w.records ≡ 1 → Joins (CursorHolds {S = S} p) id v other w (joined v w) spent
 joins S p id v other w e s kept at apart at' =
     let h = counted p s.words s.views kept in
     claimed p _ _ (same_sums p s.words s.views (set (set s.views id (joined v w)) other spent) h
     (joined_same p.blocks s.views id v other w h.records.of_round e at apart at'))
 
 pub enters : (S : Type 0) (p : Plan) (slots : ℕ) (me : Me S (View Record))
-    → Enters (Holds {S = S} p) slots 0 (λ n w. NewSeat (step slots 0 0 0 none) me n (w, []))
+    → Enters (CursorHolds {S = S} p) slots 0 (λ n w. NewSeat (step slots 0 0 0 none) me n (w, []))
 enters S p slots me s kept homes fits = (
   view 0 [],
   claimed p _ _ (same_sums p s.words s.views (s.views ++ view 0 [] ∷ []) (counted p s.words s.views kept)
@@ -270,5 +270,5 @@ opens_with p limits = record {
     nothing_taken = none_of_made fresh taken_count 0 p.workers (λ j. refl)
 
 pub opens : (S : Type 0) (p : Plan) → (p.blocks ≤ 1024) × (p.workers ≤ 64)
-    → Holds {S = S} p (opening (0 ∷ nothing_bad ∷ []) [] (opening_view p))
+    → CursorHolds {S = S} p (opening (0 ∷ nothing_bad ∷ []) [] (opening_view p))
 opens S p limits = claimed p _ _ (opens_with p limits)

@@ -34,8 +34,8 @@ pub record IsClaimed (p : Plan) (words : List ℕ) (views : List (View Record)) 
   pub all_taken : 0 < total dry_count (all_records views) → total taken_count (all_records views) ≡ p.blocks
   pub least : IsLeastReported itself (bad words) (all_records views)
 
-abbrev pub Holds : {S : Type 0} → Plan → State S (View Record) → Type 0
-Holds p s = IsClaimed p s.words s.views
+abbrev pub CursorHolds : {S : Type 0} → Plan → State S (View Record) → Type 0
+CursorHolds p s = IsClaimed p s.words s.views
 
 -- the only record of a seat's view
 abbrev pub only : View Record → Record

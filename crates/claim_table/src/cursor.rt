@@ -18,9 +18,9 @@ mod tests;
 pub struct CursorRule;
 
 impl TableRule<(), View<Record>, Plan> for CursorRule {
-    ghost use Rattle.claim_table.specs.Cursor.{Holds, opening_view};
+    ghost use Rattle.claim_table.specs.Cursor.{CursorHolds, opening_view};
 
-    ghost holds = { Holds };
+    ghost holds = { CursorHolds };
 
     ghost first = { opening_view };
 }

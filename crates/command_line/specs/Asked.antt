@@ -8,7 +8,7 @@ use Rattle.command_line.specs.Requests.{Options, Request, request_of}
 use Rattle.command_line.specs.Table.{CommandRule, rules_of, table_of_commands}
 use Rattle.command_words.specs.declared.reading.WordsError.{WordsError}
 use Rattle.command_words.specs.Words.{Item, options_in, plains_in, value_named}
-use Rattle.command_words.specs.Taken.{IsRefusal, IsUse}
+use Rattle.command_words.specs.Taken.{IsWordsRefusal, IsUse}
 
 -- the values of the options among the items
 abbrev pub values_of : List Item → Options
@@ -25,4 +25,4 @@ pub record Asks (commands : Commands) (words : List Text) (request : Request) : 
 -- the answer to the arguments: what they ask if they are accepted, and otherwise why they are not
 abbrev pub IsReading : Commands → List Text → Result Command WordsError → Type 0
 IsReading commands words (Ok command) = Asks commands words (request_of command)
-IsReading commands words (Err e) = IsRefusal (table_of_commands commands) words e
+IsReading commands words (Err e) = IsWordsRefusal (table_of_commands commands) words e

@@ -27,8 +27,8 @@ pub data Request : Type 0 where
   cross : (files : List Text) (workers : ℕ) → Request
 
 -- the requests as the program's own types have them
-abbrev pub sum_of : RunRequest → Sum
-sum_of r = record {
+abbrev pub sum_of_request : RunRequest → Sum
+sum_of_request r = record {
   file = r.file.now;
   workers = r.workers;
   budget = r.budget;
@@ -36,8 +36,8 @@ sum_of r = record {
 }
 
 abbrev pub request_of : Command → Request
-request_of (command.Run r) = run (sum_of r)
-request_of (command.Resume r) = resume (sum_of r)
+request_of (command.Run r) = run (sum_of_request r)
+request_of (command.Resume r) = resume (sum_of_request r)
 request_of (command.Make number) = make number
 request_of (command.Soak number workers) = soak number workers
 request_of (command.Trees file low high workers) = trees file.now low high workers

@@ -3,8 +3,8 @@ ghost use Rattle.std.specs.Prelude.{◌≡◌, map, option_map};
 ghost use Rattle.command_words.specs.Taken.{pair_of};
 ghost use Rattle.command_line.specs.Given.{options_of, plains_of, request_named};
 ghost use Rattle.command_line.specs.Requests.{batch_asked, budget_in, cross_asked, make_asked, merge_asked, number_or};
-ghost use Rattle.command_line.specs.Requests.{rank_asked, request_of, soak_asked, split_asked, sum_asked, sum_of};
-ghost use Rattle.command_line.specs.Requests.{trees_asked, unrank_asked, workers_in};
+ghost use Rattle.command_line.specs.Requests.{rank_asked, request_of, soak_asked, split_asked, sum_asked};
+ghost use Rattle.command_line.specs.Requests.{sum_of_request, trees_asked, unrank_asked, workers_in};
 
 use crate::command::{Command, RunRequest};
 use command_words::{Given, number};
@@ -26,7 +26,7 @@ fn workers(given: &Given<'_>) -> u64
 }
 
 fn sum<'a>(given: &Given<'a>) -> Option<RunRequest<'a>>
-    ensures { option_map sum_of result ≡ sum_asked (plains_of given.now) (options_of given.now) }
+    ensures { option_map sum_of_request result ≡ sum_asked (plains_of given.now) (options_of given.now) }
 {
     match given.plains.as_slice() {
         [file] => Some(RunRequest {

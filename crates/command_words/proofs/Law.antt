@@ -17,7 +17,7 @@ use Rattle.command_words.specs.Usages.{Usage, commands_of, different, is_among, 
 use Rattle.command_words.specs.Words.{AreRefusedFirst, Item, is_refused_first, is_use, names_in, value_named}
 use Rattle.command_words.specs.Rows.{GivesUse, HoldsRows, rows_for, usage_named, values_in}
 use Rattle.command_words.specs.Clap.{app_for}
-use Rattle.command_words.specs.Taken.{AreTaken, Holds, IsGiven, IsUse}
+use Rattle.command_words.specs.Taken.{AreTaken, HasItems, IsGiven, IsUse}
 use Rattle.command_words.proofs.Args.{same_text}
 use Rattle.command_words.proofs.Rows.{empty}
 use Rattle.command_words.proofs.Passing.{AreWords}
@@ -208,7 +208,7 @@ found_use program table words m sound passes none found =
 
 -- what the matches of a use give is what its items give
 holds : (g : Given) (u : Usage) (items : List Item) → is_sound u ≡ true → is_use u items ≡ true
-    → HoldsRows g u (rows_for (values_in u.plains items)) → Holds g u items
+    → HoldsRows g u (rows_for (values_in u.plains items)) → HasItems g u items
 holds g u items sound used h = record {
   command = h.command;
   plains = h.plains ∙ words_read u items sound used;

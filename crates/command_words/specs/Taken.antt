@@ -30,7 +30,7 @@ pair_of o = (o.name.now, o.value.now)
 
 -- What was given is this command with the positional arguments of these items, in their order, and each option of the
 -- items once: for each name the value that the items give to an option of this name.
-pub record Holds (g : Given) (u : Usage) (items : List Item) : Type 0 where
+pub record HasItems (g : Given) (u : Usage) (items : List Item) : Type 0 where
   pub command : g.command.now ≡ u.name
   pub plains : map (λ w. w.now) g.plains.items ≡ plains_in items
   pub options : (name : Text) → value_named name (map pair_of g.options.items) ≡ value_named name (options_in items)
@@ -38,15 +38,15 @@ pub record Holds (g : Given) (u : Usage) (items : List Item) : Type 0 where
 
 -- the arguments are a use of a command of the table, and this is what they give it
 abbrev pub IsGiven : List Usage → List Text → Given → Type 0
-IsGiven table words g = (u : Usage) × (items : List Item) × IsUse table words u items × Holds g u items
+IsGiven table words g = (u : Usage) × (items : List Item) × IsUse table words u items × HasItems g u items
 
 -- Why the arguments are not accepted. Those that the first look refuses are no use of a command either.
-abbrev pub IsRefusal : List Usage → List Text → WordsError → Type 0
-IsRefusal table words Refused = AreRefusedFirst words
-IsRefusal table words (ByCommand text) = (¬ AreRefusedFirst words) × (¬ AreTaken table words)
-IsRefusal table words NoMemory = ¬ AreRefusedFirst words
+abbrev pub IsWordsRefusal : List Usage → List Text → WordsError → Type 0
+IsWordsRefusal table words Refused = AreRefusedFirst words
+IsWordsRefusal table words (ByCommand text) = (¬ AreRefusedFirst words) × (¬ AreTaken table words)
+IsWordsRefusal table words NoMemory = ¬ AreRefusedFirst words
 
 -- the answer to the arguments: what they give if they are accepted, and otherwise why they are not
-abbrev pub IsAnswer : List Usage → List Text → Result Given WordsError → Type 0
-IsAnswer table words (Ok g) = IsGiven table words g
-IsAnswer table words (Err e) = IsRefusal table words e
+abbrev pub IsWordsAnswer : List Usage → List Text → Result Given WordsError → Type 0
+IsWordsAnswer table words (Ok g) = IsGiven table words g
+IsWordsAnswer table words (Err e) = IsWordsRefusal table words e

@@ -5,7 +5,7 @@ ghost use Rattle.clap.specs.Simple.{HasMatchesOf};
 ghost use Rattle.clap.specs.Values.{kind_of};
 ghost use Rattle.command_words.specs.Clap.{app_of_program};
 ghost use Rattle.command_words.specs.Rows.{GivesUse, usage_named};
-ghost use Rattle.command_words.specs.Taken.{IsAnswer};
+ghost use Rattle.command_words.specs.Taken.{IsWordsAnswer};
 ghost use Rattle.command_words.specs.Usages.{is_sound_table, table_of, usage_of};
 
 use crate::command::command;
@@ -90,7 +90,7 @@ pub fn read<'a>(
     words: &'a [String],
 ) -> Result<Given<'a>, WordsError>
     requires sound { is_sound_table (table_of program) ≡ true }
-    ensures answer { IsAnswer (table_of program.entry) (map string_bytes words.now) result }
+    ensures answer { IsWordsAnswer (table_of program.entry) (map string_bytes words.now) result }
 {
     if has_refused_word(words) {
         return Err(WordsError::Refused);

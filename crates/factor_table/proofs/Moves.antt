@@ -15,7 +15,7 @@ use Rattle.factor_table.specs.declared.table.Move.TheVariants.{Fill}
 use Rattle.factor_table.specs.declared.table.View.{View}
 use Rattle.factor_table.specs.KeyPlaces.{first_factor, words_of}
 use Rattle.factor_table.specs.Factors.{sizes_of}
-use Rattle.factor_table.specs.Rule.{AreFactors, Holds, IsFactorAt, Looks, Fills, with_place, looked, divided, new_view, joined, spent, opening_view, first_words}
+use Rattle.factor_table.specs.Rule.{AreFactors, TableHolds, IsFactorAt, Looks, Fills, with_place, looked, divided, new_view, joined, spent, opening_view, first_words}
 use Rattle.factor_table.proofs.Views.{AllFit, all_fit, after_set, after_snoc, only_view, fits_moves, fits_place, fits_looked, fits_joined, fits_spent, fits_opening, fits_still}
 
 -- the rule with other views
@@ -42,7 +42,7 @@ zero_there (suc n) (suc i) = zero_there n i
 -- a load changes no word
 pub looks : (S : Type 0) (p : Parameters) (slots id place : ℕ) (me : Me S View) → me.0.parameters ≡ p
     → first_factor (sizes_of p) ≤ place
-    → Allows (Holds {S = S} p) slots id me place (λ n. n) (Looks (step slots place 0 0 none) me)
+    → Allows (TableHolds {S = S} p) slots id me place (λ n. n) (Looks (step slots place 0 0 none) me)
 looks S p slots id place me told from s h homes at in_range =
     let n : ℕ = get_or s.words place 0 in let w : View = looked me.0 place n in
     let fit = all_fit p s.words s.views h in (
@@ -90,7 +90,7 @@ stays p words views id place v h at from some_there =
 
 pub fills : (S : Type 0) (p : Parameters) (slots id place word : ℕ) (me : Me S View) → first_factor (sizes_of p) ≤ place
     → place < words_of (sizes_of p) → word ≢ 0 → IsFactorAt p place word
-    → Allows (Holds {S = S} p) slots id me place (λ n. either (eqb n 0) word n) (Fills (step slots place 0 word none) me)
+    → Allows (TableHolds {S = S} p) slots id me place (λ n. either (eqb n 0) word n) (Fills (step slots place 0 word none) me)
 fills S p slots id place word me from below some_there is s h homes at in_range = let w : View = with_place me.0 place (Fill place) in (
   w,
   keeps,
@@ -101,7 +101,7 @@ fills S p slots id place word me from below some_there is s h homes at in_range 
   refl,
 )
 
-pub splits : (S : Type 0) (p : Parameters) (id : ℕ) (v : View) → Splits (Holds {S = S} p) id v (divided v) (new_view v)
+pub splits : (S : Type 0) (p : Parameters) (id : ℕ) (v : View) → Splits (TableHolds {S = S} p) id v (divided v) (new_view v)
 splits S p id v s h at =
     let fit = all_fit p s.words s.views h in let mine = fit id v at in let views : List View = set s.views id (divided v) in
     with_views p s.words s.views (views ++ new_view v ∷ []) h
@@ -114,7 +114,7 @@ other_view views id other both w differ e =
     (λ (x : (other ≢ id) × (get_elem? views other ≡ some w)). x.1) (at_set views id other both w e)
 
 pub joins : (S : Type 0) (p : Parameters) (id : ℕ) (v : View) (other : ℕ) (w : View)
-    → Joins (Holds {S = S} p) id v other w (joined v w) spent
+    → Joins (TableHolds {S = S} p) id v other w (joined v w) spent
 joins S p id v other w s h at differ there =
     let fit = all_fit p s.words s.views h in
     let both =
@@ -126,7 +126,7 @@ joins S p id v other w s h at differ there =
 -- a table in which no word is filled
 pub opens : (S : Type 0) (p : Parameters) (words : List ℕ) (n : ℕ) → words ≡ first_words p ++ replicate n 0
     → length words ≡ words_of (sizes_of p)
-    → Holds {S = S} p (opening words [] (opening_view p))
+    → TableHolds {S = S} p (opening words [] (opening_view p))
 opens S p words n e count =
     let fit = only_view p words (opening_view p) (fits_opening p words) in
     let long : length (first_words p) ≡ first_factor (sizes_of p) = length-append (map (reduce 18446744073709551616) p.setup) p.moduli ∙ ap (λ k. k + length p.moduli) (length-map p.setup (reduce 18446744073709551616)) in record {
@@ -143,15 +143,15 @@ opens S p words n e count =
 
 pub looks_told : (S : Type 0) (q p : Parameters) (slots id place : ℕ) (me : Me S View) → q ≡ p → me.0.parameters ≡ p
     → first_factor (sizes_of p) ≤ place
-    → Allows (Holds {S = S} q) slots id me place (λ n. n) (Looks (step slots place 0 0 none) me)
+    → Allows (TableHolds {S = S} q) slots id me place (λ n. n) (Looks (step slots place 0 0 none) me)
 looks_told S q p slots id place me e told from =
-    subst (λ k. Allows (Holds {S = S} k) slots id me place (λ n. n) (Looks (step slots place 0 0 none) me)) (sym e)
+    subst (λ k. Allows (TableHolds {S = S} k) slots id me place (λ n. n) (Looks (step slots place 0 0 none) me)) (sym e)
     (looks S p slots id place me told from)
 
 pub fills_told : (S : Type 0) (q p : Parameters) (slots id place word : ℕ) (me : Me S View) → q ≡ p
     → first_factor (sizes_of p) ≤ place → place < words_of (sizes_of p) → word ≢ 0 → IsFactorAt p place word
-    → Allows (Holds {S = S} q) slots id me place (λ n. either (eqb n 0) word n) (Fills (step slots place 0 word none) me)
+    → Allows (TableHolds {S = S} q) slots id me place (λ n. either (eqb n 0) word n) (Fills (step slots place 0 word none) me)
 fills_told S q p slots id place word me e from below some_there is =
     subst
-    (λ k. Allows (Holds {S = S} k) slots id me place (λ n. either (eqb n 0) word n) (Fills (step slots place 0 word none) me))
+    (λ k. Allows (TableHolds {S = S} k) slots id me place (λ n. either (eqb n 0) word n) (Fills (step slots place 0 word none) me))
     (sym e) (fills S p slots id place word me from below some_there is)

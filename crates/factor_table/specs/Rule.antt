@@ -40,8 +40,8 @@ pub record AreFactors (p : Parameters) (words : List ℕ) (views : List View) : 
   pub known : (id : ℕ) (v : View) → get_elem? views id ≡ some v
       → (place : ℕ) → Contains v.known place → IsFilledAt p words place
 
-abbrev pub Holds : {S : Type 0} → Parameters → State S View → Type 0
-Holds p s = AreFactors p s.words s.views
+abbrev pub TableHolds : {S : Type 0} → Parameters → State S View → Type 0
+TableHolds p s = AreFactors p s.words s.views
 
 -- the first seat knows no place
 abbrev pub opening_view : Parameters → View

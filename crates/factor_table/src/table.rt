@@ -31,9 +31,9 @@ pub struct View {
 pub struct FactorRule;
 
 impl TableRule<(), View, Parameters> for FactorRule {
-    ghost use Rattle.factor_table.specs.Rule.{Holds, opening_view};
+    ghost use Rattle.factor_table.specs.Rule.{TableHolds, opening_view};
 
-    ghost holds = { Holds };
+    ghost holds = { TableHolds };
 
     ghost first = { opening_view };
 }

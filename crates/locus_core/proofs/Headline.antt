@@ -10,7 +10,7 @@ use Rattle.localisation.proofs.AllNumbers.{bad_number_of, none_append}
 use Rattle.problem.specs.Rules.{ProblemView, KeepsRules}
 use Rattle.problem.specs.Sums.{count_of, is_bad_of, is_bad_modulo, is_bad_tree_of}
 use Rattle.problem_toml.specs.Reading.{reading}
-use Rattle.report.specs.Outcome as outcome
+use Rattle.report.specs.Outcome.{LacksInverse}
 use Rattle.report.proofs.Sums.{sums_found}
 use Rattle.rounds.specs.Rounds.{budget_end, reached}
 use Rattle.rounds.specs.Outcomes.{SumView, IsDone, IsPaused, IsNoInverse, IsTrueSum}
@@ -113,7 +113,7 @@ no_less p number rules least g i bad =
     ⊎_elim (λ l. absurd (least.least (number_of p.shape g) (omega arith) l n.1)) (λ h. h) (cases_lt (number_of p.shape g) number)
 
 of_all_trees : (p : ProblemView) (number index : ℕ) → KeepsRules p → IsLeastBad (is_bad_of p) 0 (count_of p) number
-    → IsFirstBad (is_bad_modulo p number) p.moduli modulus → outcome.IsNoInverse p number index
+    → IsFirstBad (is_bad_modulo p number) p.moduli modulus → LacksInverse p number index
 of_all_trees p number index rules least first = record {
   least = least;
   first = first;

@@ -8,7 +8,7 @@ use Rattle.problem_toml.specs.Reading.{reading}
 use Rattle.problem_toml.specs.declared.error.ProblemError.{ProblemError}
 use Rattle.checkpoint.specs.States.{StateView, IsState}
 use Rattle.checkpoint.specs.Texts.{IsTextOf}
-use Rattle.checkpoint.specs.Refusals.{IsRefusal}
+use Rattle.checkpoint.specs.Refusals.{IsCheckpointRefusal}
 use Rattle.checkpoint.specs.declared.error.CheckpointError.{CheckpointError}
 use Rattle.checkpoint.proofs.ReadingLaws.{state_is_read, refusal_is_read}
 use Rattle.command_line.specs.Requests.{Request, Sum, run, resume, make, soak}
@@ -104,7 +104,7 @@ begun_by_resume files _ s _ (by_soak number workers) e = absurd (let n = ap is_r
 pub not_both_read : (bytes : List ℕ) (p : ProblemView) (error : ProblemError) → reading bytes ≡ Ok p → reading bytes ≡ Err error → ⊥
 not_both_read bytes p error a b = let c = sym a ∙ b in cc
 
-pub not_both_states : (bytes : List ℕ) (state : StateView) (error : CheckpointError) → IsState state → IsTextOf state bytes → IsRefusal bytes error → ⊥
+pub not_both_states : (bytes : List ℕ) (state : StateView) (error : CheckpointError) → IsState state → IsTextOf state bytes → IsCheckpointRefusal bytes error → ⊥
 not_both_states bytes state error is of refused =
     let c = sym (state_is_read bytes state is of) ∙ refusal_is_read bytes error refused in cc
 

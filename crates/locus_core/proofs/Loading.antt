@@ -9,7 +9,7 @@ use Rattle.problem_toml.specs.Reading.{reading}
 use Rattle.problem_toml.specs.declared.error.ProblemError.{ProblemError}
 use Rattle.checkpoint.specs.States.{StateView, IsState}
 use Rattle.checkpoint.specs.Texts.{IsTextOf}
-use Rattle.checkpoint.specs.Refusals.{IsRefusal}
+use Rattle.checkpoint.specs.Refusals.{IsCheckpointRefusal}
 use Rattle.checkpoint.specs.Readers.{checkpoint_reading}
 use Rattle.checkpoint.specs.declared.error.CheckpointError.{CheckpointError}
 use Rattle.checkpoint.proofs.ReadingLaws.{read_found, read_refused, state_is_read, refusal_is_read}
@@ -98,8 +98,8 @@ checkpoint_read files name got s h is text =
     let r = read 1052672 files name got h in
     (r.bytes, r.file, read_found r.bytes s (same_checkpoint r.bytes got r.alike ∙ state_is_read got s is text))
 
-pub checkpoint_refused : (files : Change FilesState) (name got : List ℕ) (error : CheckpointError) → Loads 1052672 files name got → IsRefusal got error
-    → (bytes : List ℕ) × Holds files name bytes × IsRefusal bytes error
+pub checkpoint_refused : (files : Change FilesState) (name got : List ℕ) (error : CheckpointError) → Loads 1052672 files name got → IsCheckpointRefusal got error
+    → (bytes : List ℕ) × Holds files name bytes × IsCheckpointRefusal bytes error
 checkpoint_refused files name got error h refused =
     let r = read 1052672 files name got h in
     (r.bytes, r.file, read_refused r.bytes error (same_checkpoint r.bytes got r.alike ∙ refusal_is_read got error refused))

@@ -16,7 +16,7 @@ use Rattle.recover_fraction.specs.declared.recovery.Fraction as recovered
 use Rattle.problem.specs.Rules.{ProblemView}
 use Rattle.problem.specs.Sums.{count_of, places_of, is_bad_of, is_bad_modulo, HasBadTree, AreKontsevichSums}
 use Rattle.checkpoint.specs.States.{AreResidues}
-use Rattle.report.specs.Outcome.{IsNoInverse}
+use Rattle.report.specs.Outcome.{LacksInverse}
 use Rattle.report.specs.Fractions.{AreFractions, IsOnlyFraction}
 use Rattle.report.specs.Report.{done_status}
 use Rattle.report.specs.Texts.{done_text, no_inverse_text}
@@ -83,7 +83,7 @@ first_once bad ms i j a b =
     (cases_lt i j)
 
 -- the least bad number has a bad tree
-some_bad : (p : ProblemView) (number index : ℕ) → IsNoInverse p number index → HasBadTree p
+some_bad : (p : ProblemView) (number index : ℕ) → LacksInverse p number index → HasBadTree p
 some_bad p number index h = (tree_of p.shape number, h.tree, tree_bad p number h.least.is_bad)
 
 -- ---- the end of a chain

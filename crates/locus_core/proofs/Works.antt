@@ -8,7 +8,7 @@ use Rattle.problem_toml.specs.Reading.{reading, reading_of_any_length}
 use Rattle.problem_toml.specs.declared.error.ProblemError.{ProblemError}
 use Rattle.checkpoint.specs.States.{StateView, IsState, first_state, fresh_of}
 use Rattle.checkpoint.specs.Texts.{IsTextOf}
-use Rattle.checkpoint.specs.Refusals.{IsRefusal}
+use Rattle.checkpoint.specs.Refusals.{IsCheckpointRefusal}
 use Rattle.checkpoint.specs.declared.error.CheckpointError.{CheckpointError}
 use Rattle.locus_core.specs.Outside.{Change, Unchanged, FilesState, StopperState}
 use Rattle.locus_core.specs.Begins.{by_run, by_resume, by_soak, of_state, of_text, of_number, plan_of}
@@ -72,7 +72,7 @@ resume_comes files stopper shares s got state status text loads is of continues 
     summed (resume s) (of_state state (plan_of s)) continues.outcome status text (by_resume s bytes state file is whole) continues.sums continues.answer
 
 pub resume_refused : (files : Change FilesState) (stopper : Change StopperState) (s : Sum) (got : List ℕ) (error : CheckpointError)
-    → Loads 1052672 files s.file got → IsRefusal got error → Unchanged files → Unchanged stopper → WhyNot (resume s) files stopper (refusal.Checkpoint error)
+    → Loads 1052672 files s.file got → IsCheckpointRefusal got error → Unchanged files → Unchanged stopper → WhyNot (resume s) files stopper (refusal.Checkpoint error)
 resume_refused files stopper s got error loads refused kept still =
     let (bytes, file, why) = checkpoint_refused files s.file got error loads refused in
     checkpoint s bytes error refl file why kept still

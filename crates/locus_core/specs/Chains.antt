@@ -7,7 +7,7 @@ use Rattle.problem.specs.Sums.{HasBadTree, AreKontsevichSums}
 use Rattle.problem_toml.specs.Reading.{reading}
 use Rattle.checkpoint.specs.States.{StateView, AreResidues, IsState, IsTrueState}
 use Rattle.checkpoint.specs.Texts.{text_in}
-use Rattle.report.specs.Outcome.{IsNoInverse}
+use Rattle.report.specs.Outcome.{LacksInverse}
 use Rattle.report.specs.Fractions.{AreFractions, FindSums}
 use Rattle.report.specs.Report.{done_status}
 use Rattle.report.specs.Texts.{done_text, no_inverse_text}
@@ -55,7 +55,7 @@ pub record PrintsKontsevichSums (p : ProblemView) (r : Run) (n : ℕ) : Type 0 w
 pub record NamesLeastOfAll (p : ProblemView) (r : Run) : Type 0 where
   pub number : ℕ
   pub index : ℕ
-  pub is : IsNoInverse p number index
+  pub is : LacksInverse p number index
   pub out : Takes r.out (no_inverse_text p number index)
 
 -- The checkpoint of a true state of the source was printed.

@@ -2,7 +2,7 @@
 use Rattle.std.specs.Prelude.{◌≡◌, ℕ, List, [], Some, Err, codes}
 use Rattle.problem_toml.specs.Reading.{reading}
 use Rattle.problem_toml.specs.declared.error.ProblemError.{ProblemError}
-use Rattle.checkpoint.specs.Refusals.{IsRefusal}
+use Rattle.checkpoint.specs.Refusals.{IsCheckpointRefusal}
 use Rattle.checkpoint.specs.declared.error.CheckpointError.{CheckpointError}
 use Rattle.command_words.specs.Words.{AreRefusedFirst}
 use Rattle.command_line.specs.Requests.{Request, Sum, run, resume}
@@ -70,7 +70,7 @@ pub record CheckpointRefused (r : Run) : Type 0 where
   pub error : CheckpointError
   pub words : AsksFor r.words (resume sum)
   pub file : Holds r.files sum.file bytes
-  pub refused : IsRefusal bytes error
+  pub refused : IsCheckpointRefusal bytes error
   pub files : Unchanged r.files
   pub idle : IsIdle r
   pub err : Tells r.err (refused_checkpoint_line error)

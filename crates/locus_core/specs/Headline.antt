@@ -8,7 +8,7 @@ use Rattle.problem.specs.Rules.{ProblemView}
 use Rattle.problem.specs.Sums.{count_of, is_bad_of, is_bad_modulo, HasBadTree, AreKontsevichSums}
 use Rattle.problem_toml.specs.Reading.{reading, reading_of_any_length}
 use Rattle.problem_toml.specs.Generator.{generated_problem}
-use Rattle.report.specs.Outcome.{IsNoInverse}
+use Rattle.report.specs.Outcome.{LacksInverse}
 use Rattle.report.specs.Fractions.{AreFractions, FindSums}
 use Rattle.report.specs.Report.{done_status}
 use Rattle.report.specs.Texts.{done_text, no_inverse_text}
@@ -158,7 +158,7 @@ pub record NamesLeast (r : Run) : Type 0 where
   pub begun : HasBegun r beginning
   pub least : IsLeastBad (is_bad_of beginning.sum.problem) beginning.sum.next (count_of beginning.sum.problem) number
   pub first : IsFirstBad (is_bad_modulo beginning.sum.problem number) beginning.sum.problem.moduli index
-  pub of_all : IsTrueBeginning beginning → IsNoInverse beginning.sum.problem number index
+  pub of_all : IsTrueBeginning beginning → LacksInverse beginning.sum.problem number index
   pub stopper : Unchanged r.stopper
   pub out : Takes r.out (beginning.heading ++ no_inverse_text beginning.sum.problem number index)
 

@@ -5,7 +5,7 @@ use Rattle.command_line.specs.Requests.{Request, Sum, run, resume}
 use Rattle.locus_io.specs.Content.{file_of}
 use Rattle.problem_toml.specs.Reading.{reading}
 use Rattle.problem_toml.specs.declared.error.ProblemError.{ProblemError}
-use Rattle.checkpoint.specs.Refusals.{IsRefusal}
+use Rattle.checkpoint.specs.Refusals.{IsCheckpointRefusal}
 use Rattle.checkpoint.specs.declared.error.CheckpointError.{CheckpointError}
 use Rattle.rounds.specs.declared.progress.Outcome.{Outcome}
 use Rattle.rounds.specs.declared.progress.Outcome.TheVariants.{Done, Paused, NoInverse}
@@ -55,7 +55,7 @@ pub data WhyNot (request : Request) (files : Change FilesState) (stopper : Chang
   problem : (s : Sum) (bytes : List ℕ) (error : ProblemError) → request ≡ run s → Holds files s.file bytes
       → reading bytes ≡ Err error → Unchanged files → Unchanged stopper → WhyNot request files stopper (refusal.Problem error)
   checkpoint : (s : Sum) (bytes : List ℕ) (error : CheckpointError) → request ≡ resume s → Holds files s.file bytes
-      → IsRefusal bytes error → Unchanged files → Unchanged stopper → WhyNot request files stopper (refusal.Checkpoint error)
+      → IsCheckpointRefusal bytes error → Unchanged files → Unchanged stopper → WhyNot request files stopper (refusal.Checkpoint error)
   no_memory : Unchanged files → MayHaveStopped request stopper → WhyNot request files stopper refusal.NoMemory
 
 -- the answer of a step that fails for want of memory alone

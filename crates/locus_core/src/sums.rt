@@ -2,7 +2,7 @@
 
 ghost use Rattle.std.specs.Prelude.{◌≡◌, ◌≢◌, ◌<◌, ◌^◌, ◌++◌, codes, decimal, IfOk, OnErr};
 ghost use Rattle.command_line.specs.Limits.{IsSumWithin, AreWorkers};
-ghost use Rattle.command_line.specs.Requests.{sum_of, run};
+ghost use Rattle.command_line.specs.Requests.{sum_of_request, run};
 ghost use Rattle.problem_toml.specs.Generator.{generated_problem};
 ghost use Rattle.problem.specs.Problems.{view as problem_view};
 ghost use Rattle.rounds.specs.Outcomes.{IsOfProblem};
@@ -36,11 +36,12 @@ pub(crate) fn go_on<R: Threads + Sync, S: Stopper, G: Gate>(
     stopper: &mut S,
     gate: &G,
 ) -> Result<Printable, NoMemory>
-    requires within { IsSumWithin (sum_of request) }
-    ensures done { IfOk result (λ printed. Continues (of_state state (plan_of (sum_of request.entry)))
+    requires within { IsSumWithin (sum_of_request request) }
+    ensures done { IfOk result (λ printed. Continues (of_state state (plan_of (sum_of_request request.entry)))
         (stopper_change S.stops S.last_stop stopper.old stopper.new) printed.shares printed.status printed.text.items) }
     ensures no_memory { OnErr result
-        (MayHaveStopped (run (sum_of request.entry)) (stopper_change S.stops S.last_stop stopper.old stopper.new)) }
+        (MayHaveStopped (run (sum_of_request request.entry))
+        (stopper_change S.stops S.last_stop stopper.old stopper.new)) }
 {
     let progress = advance(
         rt,

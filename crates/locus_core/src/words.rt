@@ -1,7 +1,7 @@
 //! Words that are refused.
 
 ghost use Rattle.std.specs.Prelude.{◌≡◌, map, string_bytes, []};
-ghost use Rattle.command_words.specs.Taken.{IsRefusal};
+ghost use Rattle.command_words.specs.Taken.{IsWordsRefusal};
 ghost use Rattle.command_line.specs.Table.{table_of_commands};
 ghost use Rattle.locus_core.specs.Outside.{sink_change};
 ghost use Rattle.locus_core.specs.Steps.{RefusesWords};
@@ -13,7 +13,7 @@ use locus_io::Sink;
 
 /// Ends a run whose words ask for nothing, or were not read for want of memory: the words alone tell which it is.
 pub(crate) fn refuse_words<E: Sink>(err: &mut E, words: &[String], error: WordsError) -> Answer
-    requires refusal { IsRefusal (table_of_commands Commands.Built) (map string_bytes words.now) error }
+    requires refusal { IsWordsRefusal (table_of_commands Commands.Built) (map string_bytes words.now) error }
     ensures refuses { RefusesWords (map string_bytes words.now) (sink_change E.written E.is_flushed E.faults err.old err.new)
         result.status }
     ensures shares { result.shares ≡ [] }

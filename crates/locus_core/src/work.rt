@@ -2,7 +2,7 @@
 
 ghost use Rattle.std.specs.Prelude.{◌≡◌, ◌≢◌, ◌<◌, ◌^◌, Ok, Err, IfOk, IfErr, OnErr, [], suc};
 ghost use Rattle.command_line.specs.Limits.{IsBuilt, IsSumWithin, IsWithin};
-ghost use Rattle.command_line.specs.Requests.{sum_of, request_of, run, resume, soak};
+ghost use Rattle.command_line.specs.Requests.{sum_of_request, request_of, run, resume, soak};
 ghost use Rattle.problem_toml.specs.Generator.{generated_problem};
 ghost use Rattle.problem_toml.specs.Reading.{reading_of_any_length};
 ghost use Rattle.locus_core.specs.Outside.{Unchanged, files_change, stopper_change, HasFaultAt};
@@ -97,8 +97,9 @@ fn run<R: Threads + Sync, F: Files, S: Stopper, G: Gate>(
     stopper: &mut S,
     gate: &G,
 ) -> Result<Printable, Refusal>
-    requires within { IsSumWithin (sum_of request) }
-    ensures { IsWork (run (sum_of request.entry)) (files_change F.content F.faults F.last_fault files.old files.new)
+    requires within { IsSumWithin (sum_of_request request) }
+    ensures { IsWork (run (sum_of_request request.entry))
+        (files_change F.content F.faults F.last_fault files.old files.new)
         (stopper_change S.stops S.last_stop stopper.old stopper.new) result }
 {
     let bytes = match load(alloc, files, request.file, MOST_PROBLEM) {
@@ -126,8 +127,9 @@ fn resume<R: Threads + Sync, F: Files, S: Stopper, G: Gate>(
     stopper: &mut S,
     gate: &G,
 ) -> Result<Printable, Refusal>
-    requires within { IsSumWithin (sum_of request) }
-    ensures { IsWork (resume (sum_of request.entry)) (files_change F.content F.faults F.last_fault files.old files.new)
+    requires within { IsSumWithin (sum_of_request request) }
+    ensures { IsWork (resume (sum_of_request request.entry))
+        (files_change F.content F.faults F.last_fault files.old files.new)
         (stopper_change S.stops S.last_stop stopper.old stopper.new) result }
 {
     let bytes = match load(alloc, files, request.file, MOST_CHECKPOINT) {

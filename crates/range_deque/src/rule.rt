@@ -7,9 +7,9 @@ use claim_table::{Plan, View};
 pub struct RangeRule;
 
 impl TableRule<(), View<RangeRecord>, Plan> for RangeRule {
-    ghost use Rattle.range_deque.specs.Ranges.{Holds, opening_view};
+    ghost use Rattle.range_deque.specs.Ranges.{RangesHold, opening_view};
 
-    ghost holds = { Holds };
+    ghost holds = { RangesHold };
 
     ghost first = { opening_view };
 }

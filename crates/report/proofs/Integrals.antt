@@ -9,7 +9,7 @@ use Rattle.recover_fraction.specs.declared.recovery.Fraction.{Fraction}
 use Rattle.classes.specs.declared.class.Term.{Term}
 use Rattle.problem.specs.Rules.{ProblemView}
 use Rattle.problem.specs.Sums.{places_of}
-use Rattle.report.specs.Fractions.{residues_of, AreReduced, IsOnlyFraction, AreFractions}
+use Rattle.report.specs.Fractions.{residues_of, AreSumResidues, IsOnlyFraction, AreFractions}
 
 -- the place of the integral i and the modulus j
 pub place_within : (p : ProblemView) (i j : ℕ) → i < length p.integrals → j < length p.moduli
@@ -30,7 +30,7 @@ residue_there p residues i j h =
     ∙ get_or-drop (i * length p.moduli) residues j 0
 
 -- they are those that a fraction is found from
-pub residues_for : (p : ProblemView) (residues xs : List ℕ) (i : ℕ) → AreReduced p residues → i < length p.integrals
+pub residues_for : (p : ProblemView) (residues xs : List ℕ) (i : ℕ) → AreSumResidues p residues → i < length p.integrals
     → xs ≡ residues_of p residues i → length xs ≡ length p.moduli → AreResiduesFor p.moduli xs
 residues_for p residues xs i h within e l = record {
   as_many = l;
@@ -60,19 +60,19 @@ one_more p residues count found next h only = record {
   each = λ i l. ⊎_elim (before i) (last i l) (cases_lt i count);
 }
   where
-    Holds : ℕ → Option Fraction → Type 0
-    Holds i o = IsOnlyFraction p.moduli (residues_of p residues i) p.top_bound p.bottom_bound o
+    IsRight : ℕ → Option Fraction → Type 0
+    IsRight i o = IsOnlyFraction p.moduli (residues_of p residues i) p.top_bound p.bottom_bound o
 
-    before : (i : ℕ) → i < count → Holds i (get_or (found ++ next ∷ []) i None)
+    before : (i : ℕ) → i < count → IsRight i (get_or (found ++ next ∷ []) i None)
     before i l =
-        subst (Holds i) (sym (get_or_append_left found (next ∷ []) None i (subst (λ n. i < n) (sym h.as_many) l)))
+        subst (IsRight i) (sym (get_or_append_left found (next ∷ []) None i (subst (λ n. i < n) (sym h.as_many) l)))
         (h.each i l)
 
-    last : (i : ℕ) → i < count + 1 → count ≤ i → Holds i (get_or (found ++ next ∷ []) i None)
+    last : (i : ℕ) → i < count + 1 → count ≤ i → IsRight i (get_or (found ++ next ∷ []) i None)
     last i l k =
         let same : count ≡ i = omega (arith, l, k) in
-        subst (λ n. Holds n (get_or (found ++ next ∷ []) n None)) same
-        (subst (Holds count) (sym (get_or_push found next None count h.as_many)) only)
+        subst (λ n. IsRight n (get_or (found ++ next ∷ []) n None)) same
+        (subst (IsRight count) (sym (get_or_push found next None count h.as_many)) only)
 
 pub all_fractions : (p : ProblemView) (residues : List ℕ) (count : ℕ) (found : List (Option Fraction))
     → count ≡ length p.integrals

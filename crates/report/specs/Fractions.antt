@@ -10,7 +10,7 @@ use Rattle.problem.specs.Rules.{ProblemView}
 use Rattle.problem.specs.Sums.{places_of}
 
 -- there is a residue for each integral and modulus, and it is below its modulus
-pub record AreReduced (p : ProblemView) (residues : List ℕ) : Type 0 where
+pub record AreSumResidues (p : ProblemView) (residues : List ℕ) : Type 0 where
   pub as_many : places_of p ≤ length residues
   pub below : (place : ℕ) → place < places_of p → slice_index residues place < modulus_at p.moduli place
 

@@ -8,13 +8,13 @@ use Rattle.problem.specs.Rules.{ProblemView}
 use Rattle.problem.specs.Sums.{count_of, is_bad_of, is_bad_tree_of, is_bad_modulo, HasBadTree, AreKontsevichSums}
 
 -- no decorated tree is bad, and the residues are those of each integral's Kontsevich sum over all decorated trees
-pub record IsDone (p : ProblemView) (residues : List ℕ) : Type 0 where
+pub record HasSums (p : ProblemView) (residues : List ℕ) : Type 0 where
   pub none_bad : ¬ HasBadTree p
   pub sums : AreKontsevichSums p residues
 
 -- The least number whose tree is bad, and the index of the first modulus for which it is. The tree is a decorated tree,
 -- and each decorated tree that is bad has this number or a greater one.
-pub record IsNoInverse (p : ProblemView) (number place : ℕ) : Type 0 where
+pub record LacksInverse (p : ProblemView) (number place : ℕ) : Type 0 where
   pub least : IsLeastBad (is_bad_of p) 0 (count_of p) number
   pub first : IsFirstBad (is_bad_modulo p number) p.moduli place
   pub tree : IsIn (tree_of p.shape number) (all_trees p.shape)

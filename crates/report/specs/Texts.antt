@@ -9,12 +9,12 @@ use Rattle.problem.specs.Sums.{count_of}
 use Rattle.report.specs.Fractions.{residues_of}
 
 -- a word, a space and a number on a line of their own
-abbrev pub number_line : List ℕ → ℕ → List ℕ
-number_line word n = word ++ codes " " ++ decimal n ++ codes "\n"
+abbrev pub labelled_line : List ℕ → ℕ → List ℕ
+labelled_line word n = word ++ codes " " ++ decimal n ++ codes "\n"
 
 -- `integral <i>`, which is printed exactly if there are two or more integrals
 abbrev pub integral_line : ℕ → ℕ → List ℕ
-integral_line count i = if nat_lt 1 count then number_line (codes "integral") i else []
+integral_line count i = if nat_lt 1 count then labelled_line (codes "integral") i else []
 
 -- `residue <modulus> <residue>`
 abbrev pub residue_line : ℕ → ℕ → List ℕ
@@ -43,11 +43,11 @@ lines_from p residues i (f ∷ fs) = integral_lines p residues i f ++ lines_from
 
 -- the count of the trees, and the lines of all integrals
 abbrev pub done_text : ProblemView → List ℕ → List (Option Fraction) → List ℕ
-done_text p residues found = number_line (codes "trees") (count_of p) ++ lines_from p residues 0 found
+done_text p residues found = labelled_line (codes "trees") (count_of p) ++ lines_from p residues 0 found
 
 -- the least bad number, its first modulus and the text of its tree
 abbrev pub no_inverse_text : ProblemView → ℕ → ℕ → List ℕ
 no_inverse_text p number place =
-    codes "no inverse\n" ++ number_line (codes "tree") number
-    ++ number_line (codes "modulus") (slice_index p.moduli place)
+    codes "no inverse\n" ++ labelled_line (codes "tree") number
+    ++ labelled_line (codes "modulus") (slice_index p.moduli place)
     ++ tree_text (tree_of p.shape number) ++ codes "\n"

@@ -3,7 +3,7 @@
 ghost use Rattle.std.specs.Prelude.{◌≡◌, ◌*◌, ◌<◌, ◌≤◌, length, IfOk};
 ghost use Rattle.problem.specs.Problems.{view as problem_view};
 ghost use Rattle.problem.specs.Sums.{places_of};
-ghost use Rattle.report.specs.Fractions.{residues_of, AreReduced, IsOnlyFraction, AreFractions};
+ghost use Rattle.report.specs.Fractions.{residues_of, AreSumResidues, IsOnlyFraction, AreFractions};
 
 use problem::Problem;
 use recover_fraction::{Fraction, agreeing_fraction};
@@ -16,7 +16,7 @@ pub(crate) fn fractions(
     problem: &Problem,
     residues: &[u64],
 ) -> Result<Vec<Option<Fraction>>, NoMemory>
-    requires { AreReduced (problem_view problem.now) residues.now }
+    requires { AreSumResidues (problem_view problem.now) residues.now }
     ensures { IfOk result (λ found. AreFractions (problem_view problem.now) residues.now found.items) }
 {
     let mut found = Vec::new(alloc);
@@ -28,7 +28,7 @@ pub(crate) fn fractions(
 
 /// The fraction of one integral.
 fn fraction(problem: &Problem, residues: &[u64], integral: usize) -> Option<Fraction>
-    requires residues { AreReduced (problem_view problem.now) residues.now }
+    requires residues { AreSumResidues (problem_view problem.now) residues.now }
     requires within { integral < length problem.now.integrals }
     ensures { IsOnlyFraction problem.now.moduli (residues_of (problem_view problem.now) residues.now integral)
         problem.now.top_bound problem.now.bottom_bound result }

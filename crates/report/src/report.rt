@@ -4,12 +4,12 @@ ghost use Rattle.std.specs.Prelude.{◌≡◌, ◌<◌, length, true, false, is_
 ghost use Rattle.std.specs.List.{list_all};
 ghost use Rattle.problem.specs.Problems.{view as problem_view};
 ghost use Rattle.problem.specs.Sums.{count_of};
-ghost use Rattle.report.specs.Fractions.{AreReduced};
+ghost use Rattle.report.specs.Fractions.{AreSumResidues};
 ghost use Rattle.report.specs.Texts.{no_inverse_text};
 ghost use Rattle.report.specs.Report.{IsDoneReport, done_status};
 
 use crate::fractions::fractions;
-use crate::text::{append_integrals, append_number_line};
+use crate::text::{append_integrals, append_labelled_line};
 use decorated_tree::write_text;
 use problem::Problem;
 use recover_fraction::Fraction;
@@ -34,12 +34,12 @@ pub struct Report {
 /// # Errors
 /// Want of memory.
 pub fn done(alloc: Global, problem: &Problem, residues: &[u64]) -> Result<Report, NoMemory>
-    requires { AreReduced (problem_view problem.now) residues.now }
+    requires { AreSumResidues (problem_view problem.now) residues.now }
     ensures { IfOk result (λ report. IsDoneReport (problem_view problem.now) residues.now report.status report.text.items) }
 {
     let fractions = fractions(alloc, problem, residues)?;
     let mut text = Vec::new(alloc);
-    append_number_line(&mut text, "trees", problem.shape.count())?;
+    append_labelled_line(&mut text, "trees", problem.shape.count())?;
     append_integrals(&mut text, problem, residues, fractions.as_slice())?;
     Ok(Report {
         status: status(fractions.as_slice()),
@@ -79,8 +79,8 @@ fn no_inverse_lines(
     ensures { IfOk result (λ text. text.items ≡ no_inverse_text (problem_view problem.now) number place) }
 {
     let mut text = Vec::from_slice(alloc, b"no inverse\n")?;
-    append_number_line(&mut text, "tree", number)?;
-    append_number_line(&mut text, "modulus", problem.moduli.get(place).get())?;
+    append_labelled_line(&mut text, "tree", number)?;
+    append_labelled_line(&mut text, "modulus", problem.moduli.get(place).get())?;
     write_text(&problem.shape.tree(number), &mut text)?;
     text.extend_from_slice(b"\n")?;
     Ok(text)

@@ -2,7 +2,7 @@
 
 ghost use Rattle.std.specs.Bool.{OnTrue};
 ghost use Rattle.problem.specs.Problems.{view as problem_view};
-ghost use Rattle.report.specs.Fractions.{AreReduced};
+ghost use Rattle.report.specs.Fractions.{AreSumResidues};
 
 use super::*;
 use decorated_tree::Shape;
@@ -109,7 +109,7 @@ fn integral_of(alloc: Global, coefficient: i64, class: Option<Power>) -> Result<
 
 /// Whether there is a residue for each integral and modulus, and it is below its modulus.
 fn are_reduced(problem: &Problem, residues: &[u64]) -> bool
-    ensures { OnTrue result (AreReduced (problem_view problem.now) residues.now) }
+    ensures { OnTrue result (AreSumResidues (problem_view problem.now) residues.now) }
 {
     let count = problem.moduli.len();
     if count == 0 || residues.len() / count < problem.integrals.len() {

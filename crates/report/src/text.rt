@@ -3,7 +3,8 @@
 ghost use Rattle.std.specs.Prelude.{◌≡◌, ◌++◌, ◌<◌, ◌≤◌, length, OnOk, None, get_or};
 ghost use Rattle.problem.specs.Problems.{view as problem_view};
 ghost use Rattle.problem.specs.Sums.{places_of};
-ghost use Rattle.report.specs.Texts.{number_line, integral_line, residue_line, residue_lines, fraction_line, integral_lines, lines_from};
+ghost use Rattle.report.specs.Texts.{labelled_line, integral_line, residue_line, residue_lines, fraction_line};
+ghost use Rattle.report.specs.Texts.{integral_lines, lines_from};
 
 use crate::fractions::residues_of;
 use itoa::Buffer;
@@ -13,12 +14,12 @@ use residue::{Modulus, NoMemory};
 
 /// Appends a word, a space and a number on a line of their own.
 #[tactic(auto, using(std::proofs::Common::append_assoc))]
-pub(crate) fn append_number_line(
+pub(crate) fn append_labelled_line(
     text: &mut Vec<u8>,
     word: &str,
     number: u64,
 ) -> Result<(), NoMemory>
-    ensures { OnOk result (text.new.items ≡ text.old.items ++ number_line word.now number) }
+    ensures { OnOk result (text.new.items ≡ text.old.items ++ labelled_line word.now number) }
 {
     text.extend_from_slice(word.as_bytes())?;
     text.extend_from_slice(b" ")?;
@@ -72,7 +73,7 @@ fn append_integral_line(text: &mut Vec<u8>, count: usize, integral: usize) -> Re
     ensures { OnOk result (text.new.items ≡ text.old.items ++ integral_line count integral) }
 {
     if count > 1 {
-        append_number_line(text, "integral", integral as u64)?;
+        append_labelled_line(text, "integral", integral as u64)?;
     }
     Ok(())
 }

@@ -1,6 +1,8 @@
 use Rattle.locus_core.proofs.Consequences as consequences
 use Rattle.locus_core.proofs.Decided as decisions
 use Rattle.locus_core.proofs.Headline as headline
+use Rattle.locus_core.proofs.Stops as stopping
+use Rattle.locus_core.proofs.Chains as chaining
 use Rattle.locus_core.proofs.top.locus.Goals as goal
 
 pub returns-clause-known : goal.returns-clause-known
@@ -38,3 +40,9 @@ returns-clause-claims g c = headline.claims _ _ c.end.ensures
 
 pub returns-clause-bytes : goal.returns-clause-bytes
 returns-clause-bytes g c = headline.bytes _ _ c.end.ensures
+
+pub returns-clause-stops : goal.returns-clause-stops
+returns-clause-stops g c = stopping.stops _ _ c.end.ensures
+
+pub returns-clause-chains : goal.returns-clause-chains
+returns-clause-chains g c = chaining.ends_chains _ _ c.end.ensures

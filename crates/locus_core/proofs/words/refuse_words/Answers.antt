@@ -1,6 +1,6 @@
 use Rattle.std.proofs.Common.{map, string_bytes, sym, ◌∙◌, subst, refl}
 use Rattle.std.proofs.lemmas.Bool.{false≢true}
-use Rattle.command_words.specs.Taken.{IsRefusal}
+use Rattle.command_words.specs.Taken.{IsWordsRefusal}
 use Rattle.command_line.specs.Table.{table_of_commands}
 use Rattle.command_line.specs.declared.table.Commands.TheVariants.{Built}
 use Rattle.command_words.proofs.Consequences.{taken_not_refused}
@@ -11,7 +11,7 @@ use Rattle.locus_core.proofs.words.refuse_words.Goals as goal
 
 pub returns-in-ByCommand-clause-refuses : goal.returns-in-ByCommand-clause-refuses
 returns-in-ByCommand-clause-refuses g c =
-    let why = subst (IsRefusal (table_of_commands Built) (map string_bytes c.args.words.now)) c.in-ByCommand.is c.requires.refusal in
+    let why = subst (IsWordsRefusal (table_of_commands Built) (map string_bytes c.args.words.now)) c.in-ByCommand.is c.requires.refusal in
     nothing_asked _ c.end.ensures.status (refusal_asks_nothing Built (map string_bytes c.args.words.now) why.1) (λ first. absurd (why.0 first)) c.end.ensures.line
 
 pub returns-in-NoMemory-clause-refuses : goal.returns-in-NoMemory-clause-refuses
@@ -27,7 +27,7 @@ returns-in-NoMemory-2-clause-refuses g c =
 
 pub returns-in-Refused-clause-refuses : goal.returns-in-Refused-clause-refuses
 returns-in-Refused-clause-refuses g c =
-    let why = subst (IsRefusal (table_of_commands Built) (map string_bytes c.args.words.now)) c.in-Refused.is c.requires.refusal in
+    let why = subst (IsWordsRefusal (table_of_commands Built) (map string_bytes c.args.words.now)) c.in-Refused.is c.requires.refusal in
     nothing_asked _ c.end-in-Refused.ensures.status
     (refusal_asks_nothing Built (map string_bytes c.args.words.now)
     (λ taken. taken_not_refused (table_of_commands Built) (map string_bytes c.args.words.now) (sound Built) taken why))

@@ -1,6 +1,6 @@
 use Rattle.std.proofs.Common.{refl, inl, subst, ap, sym, ◌∙◌, Err}
 use Rattle.checkpoint.specs.Texts.{IsTextOf}
-use Rattle.checkpoint.specs.Refusals.{IsRefusal}
+use Rattle.checkpoint.specs.Refusals.{IsCheckpointRefusal}
 use Rattle.locus_core.specs.Steps.{read_fault, no_memory}
 use Rattle.locus_core.proofs.Works.{resume_works, resume_refused}
 use Rattle.locus_core.proofs.work.resume.Goals as goal
@@ -22,4 +22,4 @@ returns-in-NoMemory g c = no_memory (c.load.ensures.unchanged (λ e. let bad = s
 
 pub returns : goal.returns
 returns g c =
-    resume_refused _ _ _ c.in-Ok.bytes.items c.in-Err.error c.in-Ok.ensures.found (subst (λ t. IsRefusal t c.in-Err.error) c.as_slice.ensures.value (c.in-Err.ensures.refusal c.in_default.not-NoMemory)) (c.load.ensures.unchanged (λ e. let bad = sym c.in-Ok.is ∙ e in cc)) refl
+    resume_refused _ _ _ c.in-Ok.bytes.items c.in-Err.error c.in-Ok.ensures.found (subst (λ t. IsCheckpointRefusal t c.in-Err.error) c.as_slice.ensures.value (c.in-Err.ensures.refusal c.in_default.not-NoMemory)) (c.load.ensures.unchanged (λ e. let bad = sym c.in-Ok.is ∙ e in cc)) refl
