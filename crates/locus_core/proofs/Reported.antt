@@ -12,6 +12,7 @@ use Rattle.rounds.specs.Outcomes.{sum_of, IsProgress, IsEarly}
 use Rattle.rounds.specs.declared.progress.Progress.{Progress}
 use Rattle.rounds.specs.declared.progress.Outcome.{Outcome}
 use Rattle.rounds.specs.declared.progress.Outcome.TheVariants.{Done, Paused, NoInverse}
+use Rattle.report.specs.Statuses.{code_of}
 use Rattle.locus_core.specs.Begins.{Beginning, Plan, of_state}
 use Rattle.locus_core.specs.Comes.{IsAnswer, done, paused, no_inverse}
 use Rattle.locus_core.specs.Outside.{Change, Unchanged, StopperState, HasStopped}
@@ -32,23 +33,23 @@ no_inverse_answer b number modulus status text s t =
     (subst (λ x. IsAnswer b (NoInverse number modulus) 4 (b.heading ++ x)) (sym t) (no_inverse number modulus))
 
 pub done_reported : (state : StateView) (outcome : Outcome) (p : ProblemView) (residues given : List ℕ) (r : Result Report NoMemory)
-    → outcome ≡ Done residues → p ≡ state.problem → given ≡ residues → IfOk r (λ report. IsDoneReport p given report.status report.text.items)
-    → IfOk r (λ report. (plan : Plan) → IsAnswer (of_state state plan) outcome report.status report.text.items)
+    → outcome ≡ Done residues → p ≡ state.problem → given ≡ residues → IfOk r (λ report. IsDoneReport p given (code_of report.status) report.text.items)
+    → IfOk r (λ report. (plan : Plan) → IsAnswer (of_state state plan) outcome (code_of report.status) report.text.items)
 done_reported state outcome p residues given (Err e) is same items h = tt
 done_reported state outcome p residues given (Ok report) is same items h = λ plan.
-    subst (λ o. IsAnswer (of_state state plan) o report.status report.text.items) (sym is)
-    (done_answer (of_state state plan) residues report.status report.text.items
-    (subst (λ xs. IsDoneReport state.problem xs report.status report.text.items) items
-    (subst (λ q. IsDoneReport q given report.status report.text.items) same h)))
+    subst (λ o. IsAnswer (of_state state plan) o (code_of report.status) report.text.items) (sym is)
+    (done_answer (of_state state plan) residues (code_of report.status) report.text.items
+    (subst (λ xs. IsDoneReport state.problem xs (code_of report.status) report.text.items) items
+    (subst (λ q. IsDoneReport q given (code_of report.status) report.text.items) same h)))
 
 pub no_inverse_reported : (state : StateView) (outcome : Outcome) (p : ProblemView) (number modulus : ℕ) (r : Result Report NoMemory)
-    → outcome ≡ NoInverse number modulus → p ≡ state.problem → IfOk r (λ report. report.status ≡ 4)
+    → outcome ≡ NoInverse number modulus → p ≡ state.problem → IfOk r (λ report. code_of report.status ≡ 4)
     → IfOk r (λ report. report.text.items ≡ no_inverse_text p number modulus)
-    → IfOk r (λ report. (plan : Plan) → IsAnswer (of_state state plan) outcome report.status report.text.items)
+    → IfOk r (λ report. (plan : Plan) → IsAnswer (of_state state plan) outcome (code_of report.status) report.text.items)
 no_inverse_reported state outcome p number modulus (Err e) is same s t = tt
 no_inverse_reported state outcome p number modulus (Ok report) is same s t = λ plan.
-    subst (λ o. IsAnswer (of_state state plan) o report.status report.text.items) (sym is)
-    (no_inverse_answer (of_state state plan) number modulus report.status report.text.items s
+    subst (λ o. IsAnswer (of_state state plan) o (code_of report.status) report.text.items) (sym is)
+    (no_inverse_answer (of_state state plan) number modulus (code_of report.status) report.text.items s
     (t ∙ ap (λ q. no_inverse_text q number modulus) same))
 
 pub paused_reported : (state new : StateView) (outcome : Outcome) (next : ℕ) (residues text : List ℕ) (plan : Plan) → outcome ≡ Paused next residues

@@ -10,6 +10,7 @@ use Rattle.checkpoint.specs.States.{StateView, IsState, first_state, fresh_of}
 use Rattle.checkpoint.specs.Texts.{IsTextOf}
 use Rattle.checkpoint.specs.Refusals.{IsCheckpointRefusal}
 use Rattle.checkpoint.specs.declared.error.CheckpointError.{CheckpointError}
+use Rattle.report.specs.Statuses.{code_of}
 use Rattle.locus_core.specs.Outside.{Change, Unchanged, FilesState, StopperState}
 use Rattle.locus_core.specs.Begins.{by_run, by_resume, by_soak, of_state, of_text, of_number, plan_of}
 use Rattle.locus_core.specs.Comes.{Comes, summed, made, MayHaveStopped}
@@ -44,7 +45,7 @@ fresh_error bytes error e = by_reading (reading bytes) refl e
 
 -- ---- what is done without memory is refused
 worked : (request : Request) (files : Change FilesState) (stopper : Change StopperState) (r : Result Printable NoMemory) (result : Result Printable Refusal)
-    → result ≡ as_refusal r → Unchanged files → IfOk r (λ p. Comes files stopper p.shares request p.status p.text.items)
+    → result ≡ as_refusal r → Unchanged files → IfOk r (λ p. Comes files stopper p.shares request (code_of p.status) p.text.items)
     → OnErr r (MayHaveStopped request stopper) → IsWork request files stopper result
 worked request files stopper (Ok p) result is kept ok err = subst (IsWork request files stopper) (sym is) (kept, ok)
 worked request files stopper (Err e) result is kept ok err = subst (IsWork request files stopper) (sym is) (no_memory kept err)
@@ -84,30 +85,30 @@ soak_comes files stopper shares number workers status text c =
 
 pub run_works : (files : Change FilesState) (stopper : Change StopperState) (s : Sum) (got : List ℕ) (state : StateView) (r : Result Printable NoMemory) (result : Result Printable Refusal)
     → result ≡ as_refusal r → Unchanged files → Loads 1048576 files s.file got → fresh_of got ≡ Ok state
-    → IfOk r (λ p. Continues (of_state state (plan_of s)) stopper p.shares p.status p.text.items)
+    → IfOk r (λ p. Continues (of_state state (plan_of s)) stopper p.shares (code_of p.status) p.text.items)
     → OnErr r (MayHaveStopped (run s) stopper) → IsWork (run s) files stopper result
 run_works files stopper s got state r result is kept loads fresh ok err =
     worked (run s) files stopper r result is kept
-    (IfOk-weaker r _ _ (λ p c. run_comes files stopper p.shares s got state p.status p.text.items loads fresh c) ok) err
+    (IfOk-weaker r _ _ (λ p c. run_comes files stopper p.shares s got state (code_of p.status) p.text.items loads fresh c) ok) err
 
 pub resume_works : (files : Change FilesState) (stopper : Change StopperState) (s : Sum) (got : List ℕ) (state : StateView) (r : Result Printable NoMemory) (result : Result Printable Refusal)
     → result ≡ as_refusal r → Unchanged files → Loads 1052672 files s.file got → IsState state → IsTextOf state got
-    → IfOk r (λ p. Continues (of_state state (plan_of s)) stopper p.shares p.status p.text.items)
+    → IfOk r (λ p. Continues (of_state state (plan_of s)) stopper p.shares (code_of p.status) p.text.items)
     → OnErr r (MayHaveStopped (run s) stopper) → IsWork (resume s) files stopper result
 resume_works files stopper s got state r result is kept loads state_is of ok err =
     worked (resume s) files stopper r result is kept
-    (IfOk-weaker r _ _ (λ p c. resume_comes files stopper p.shares s got state p.status p.text.items loads state_is of c) ok) err
+    (IfOk-weaker r _ _ (λ p c. resume_comes files stopper p.shares s got state (code_of p.status) p.text.items loads state_is of c) ok) err
 
 pub soak_works : (files : Change FilesState) (stopper : Change StopperState) (number workers : ℕ) (r : Result Printable NoMemory) (result : Result Printable Refusal)
-    → result ≡ as_refusal r → Unchanged files → IfOk r (λ p. Continues (of_number number workers) stopper p.shares p.status p.text.items)
+    → result ≡ as_refusal r → Unchanged files → IfOk r (λ p. Continues (of_number number workers) stopper p.shares (code_of p.status) p.text.items)
     → OnErr r (Unchanged stopper) → IsWork (soak number workers) files stopper result
 soak_works files stopper number workers (Ok p) result is kept ok err =
-    worked (soak number workers) files stopper (Ok p) result is kept (soak_comes files stopper p.shares number workers p.status p.text.items ok) tt
+    worked (soak number workers) files stopper (Ok p) result is kept (soak_comes files stopper p.shares number workers (code_of p.status) p.text.items ok) tt
 soak_works files stopper number workers (Err e) result is kept ok err =
     worked (soak number workers) files stopper (Err e) result is kept tt (inl err)
 
 pub make_works : (files : Change FilesState) (stopper : Change StopperState) (number : ℕ) (r : Result Printable NoMemory) (result : Result Printable Refusal)
-    → result ≡ as_refusal r → Unchanged files → Unchanged stopper → IfOk r (λ p. p.status ≡ 0)
+    → result ≡ as_refusal r → Unchanged files → Unchanged stopper → IfOk r (λ p. code_of p.status ≡ 0)
     → IfOk r (λ p. reading_of_any_length p.text.items ≡ Ok (generated_problem number)) → IfOk r (λ p. p.shares ≡ [])
     → IsWork (make number) files stopper result
 make_works files stopper number (Ok p) result is kept still status text shares =

@@ -12,6 +12,7 @@ use Rattle.rounds.specs.declared.progress.Outcome.TheVariants.{Done, Paused, NoI
 use Rattle.problem.specs.Rules.{ProblemView}
 use Rattle.report.specs.Report.{IsDoneReport}
 use Rattle.report.specs.Texts.{no_inverse_text}
+use Rattle.report.specs.Statuses.{code_of}
 use Rattle.locus_core.specs.Words.{AsksFor, AskNothing}
 use Rattle.locus_core.specs.Texts.{refused_line, refused_checkpoint_line}
 use Rattle.locus_core.specs.Outside.{Change, Unchanged, FilesState, StopperState, SinkState, Holds, HasFaultAt, Takes, BreaksOff, Tells}
@@ -65,7 +66,7 @@ as_refusal (Err e) = Err refusal.NoMemory
 
 -- what a request comes to, before anything is written
 abbrev pub IsWork : Request → Change FilesState → Change StopperState → Result Printable Refusal → Type 0
-IsWork request files stopper (Ok p) = Unchanged files × Comes files stopper p.shares request p.status p.text.items
+IsWork request files stopper (Ok p) = Unchanged files × Comes files stopper p.shares request (code_of p.status) p.text.items
 IsWork request files stopper (Err r) = WhyNot request files stopper r
 
 -- the text was written whole and its status is the answer, or status 7 tells that it was not

@@ -1,6 +1,7 @@
 //! Writing what a run comes to.
 
 ghost use Rattle.std.specs.Prelude.{◌≡◌, [], codes, IfOk, IsErr};
+ghost use Rattle.report.specs.Statuses.{code_of};
 ghost use Rattle.locus_core.specs.Texts.{refused_line, refused_checkpoint_line};
 ghost use Rattle.locus_core.specs.Outside.{sink_change, Tells};
 ghost use Rattle.locus_core.specs.Steps.{Prints, Refuses};
@@ -10,6 +11,7 @@ use crate::work::{Printable, Refusal};
 use checkpoint::CheckpointError;
 use locus_io::{Failed, Sink, put_all};
 use problem_toml::ProblemError;
+use report::Status;
 use residue::NoMemory;
 use std::alloc::Global;
 use worker_pool::Shares;
@@ -17,18 +19,18 @@ use worker_pool::Shares;
 /// Writes a text whole and flushes it; if the output does not take it, the run ends with a write fault.
 pub(crate) fn print<O: Sink, E: Sink>(out: &mut O, err: &mut E, printable: Printable) -> Answer
     ensures prints { Prints (sink_change O.written O.is_flushed O.faults out.old out.new)
-        (sink_change E.written E.is_flushed E.faults err.old err.new) printable.status printable.text.items result.status }
+        (sink_change E.written E.is_flushed E.faults err.old err.new) (code_of printable.status) printable.text.items result.status }
     ensures shares { result.shares ≡ printable.shares }
 {
     match put_all(out, printable.text.as_slice()) {
         Ok(()) => Answer {
-            status: printable.status,
+            status: printable.status.code(),
             shares: printable.shares,
         },
         Err(Failed) => {
             tell(err, b"write fault\n");
             Answer {
-                status: 7,
+                status: Status::WriteFault.code(),
                 shares: printable.shares,
             }
         }
@@ -41,16 +43,16 @@ pub(crate) fn refuse<E: Sink>(alloc: Global, err: &mut E, refusal: Refusal) -> A
     ensures shares { result.shares ≡ [] }
 {
     match refusal {
-        Refusal::ReadFault => end(err, 6, b"read fault\n"),
-        Refusal::NoMemory => end(err, 9, b"want of memory\n"),
-        Refusal::Problem(error) => end_with(err, 3, problem_line(alloc, &error)),
-        Refusal::Checkpoint(error) => end_with(err, 8, checkpoint_line(alloc, &error)),
+        Refusal::ReadFault => end(err, Status::ReadFault, b"read fault\n"),
+        Refusal::NoMemory => end(err, Status::NoMemory, b"want of memory\n"),
+        Refusal::Problem(error) => end_with(err, Status::ProblemRefused, problem_line(alloc, &error)),
+        Refusal::Checkpoint(error) => end_with(err, Status::CheckpointRefused, checkpoint_line(alloc, &error)),
     }
 }
 
 /// Ends a run with a line on standard error, or with want of memory if there is no line.
-fn end_with<E: Sink>(err: &mut E, status: u8, line: Result<Vec<u8>, NoMemory>) -> Answer
-    ensures line { IfOk line (λ line. (result.status ≡ status)
+fn end_with<E: Sink>(err: &mut E, status: Status, line: Result<Vec<u8>, NoMemory>) -> Answer
+    ensures line { IfOk line (λ line. (result.status ≡ code_of status)
         × Tells (sink_change E.written E.is_flushed E.faults err.old err.new) line.items) }
     ensures no_line { IsErr line → (result.status ≡ 9)
         × Tells (sink_change E.written E.is_flushed E.faults err.old err.new) (codes "want of memory\n") }
@@ -58,19 +60,19 @@ fn end_with<E: Sink>(err: &mut E, status: u8, line: Result<Vec<u8>, NoMemory>) -
 {
     match line {
         Ok(line) => end(err, status, line.as_slice()),
-        Err(NoMemory) => end(err, 9, b"want of memory\n"),
+        Err(NoMemory) => end(err, Status::NoMemory, b"want of memory\n"),
     }
 }
 
 /// Ends a run with a line on standard error. A fault there changes nothing.
-pub(crate) fn end<E: Sink>(err: &mut E, status: u8, line: &[u8]) -> Answer
-    ensures status { result.status ≡ status }
+pub(crate) fn end<E: Sink>(err: &mut E, status: Status, line: &[u8]) -> Answer
+    ensures status { result.status ≡ code_of status }
     ensures line { Tells (sink_change E.written E.is_flushed E.faults err.old err.new) line.now }
     ensures shares { result.shares ≡ [] }
 {
     tell(err, line);
     Answer {
-        status,
+        status: status.code(),
         shares: Shares::new(0),
     }
 }

@@ -5,6 +5,7 @@ ghost use Rattle.command_line.specs.Limits.{IsSumWithin, AreWorkers};
 ghost use Rattle.command_line.specs.Requests.{sum_of_request, run};
 ghost use Rattle.problem_toml.specs.Generator.{generated_problem};
 ghost use Rattle.problem.specs.Problems.{view as problem_view};
+ghost use Rattle.report.specs.Statuses.{code_of};
 ghost use Rattle.rounds.specs.Outcomes.{IsOfProblem};
 ghost use Rattle.locus_core.specs.Outside.{Unchanged, stopper_change};
 ghost use Rattle.locus_core.specs.Begins.{of_state, of_number, plan_of, Plan};
@@ -17,7 +18,7 @@ use command_line::RunRequest;
 use locus_io::Stopper;
 use problem::Problem;
 use problem_toml::generated;
-use report::{Report, done, no_inverse};
+use report::{Report, Status, done, no_inverse};
 use residue::NoMemory;
 use rounds::{Outcome, Progress, advance, advance_problem};
 use std::alloc::Global;
@@ -38,7 +39,7 @@ pub(crate) fn go_on<R: Threads + Sync, S: Stopper, G: Gate>(
 ) -> Result<Printable, NoMemory>
     requires within { IsSumWithin (sum_of_request request) }
     ensures done { IfOk result (λ printed. Continues (of_state state (plan_of (sum_of_request request.entry)))
-        (stopper_change S.stops S.last_stop stopper.old stopper.new) printed.shares printed.status printed.text.items) }
+        (stopper_change S.stops S.last_stop stopper.old stopper.new) printed.shares (code_of printed.status) printed.text.items) }
     ensures no_memory { OnErr result
         (MayHaveStopped (run (sum_of_request request.entry))
         (stopper_change S.stops S.last_stop stopper.old stopper.new)) }
@@ -65,7 +66,7 @@ pub(crate) fn go_on<R: Threads + Sync, S: Stopper, G: Gate>(
 /// What is printed of an outcome: sums with their fractions, the least bad tree, or a checkpoint.
 fn report_of(alloc: Global, state: State, outcome: Outcome) -> Result<Report, NoMemory>
     requires { IsOfProblem state.problem outcome }
-    ensures { IfOk result (λ report. (plan : Plan) → IsAnswer (of_state state plan) outcome report.status report.text.items) }
+    ensures { IfOk result (λ report. (plan : Plan) → IsAnswer (of_state state plan) outcome (code_of report.status) report.text.items) }
 {
     match outcome {
         Outcome::Done { residues } => done(alloc, state.problem(), residues.as_slice()),
@@ -75,7 +76,7 @@ fn report_of(alloc: Global, state: State, outcome: Outcome) -> Result<Report, No
         Outcome::Paused { next, residues } => {
             let state = state.with_progress(next, residues);
             Ok(Report {
-                status: 5,
+                status: Status::Paused,
                 text: checkpoint::write(alloc, &state)?,
             })
         }
@@ -93,7 +94,7 @@ pub(crate) fn soak<R: Threads + Sync, S: Stopper, G: Gate>(
 ) -> Result<Printable, NoMemory>
     requires workers { AreWorkers workers }
     ensures done { IfOk result (λ printed. Continues (of_number number workers)
-        (stopper_change S.stops S.last_stop stopper.old stopper.new) printed.shares printed.status printed.text.items) }
+        (stopper_change S.stops S.last_stop stopper.old stopper.new) printed.shares (code_of printed.status) printed.text.items) }
     ensures no_memory { OnErr result (Unchanged (stopper_change S.stops S.last_stop stopper.old stopper.new)) }
 {
     let problem = generated(alloc, number)?;
@@ -122,7 +123,7 @@ pub(crate) fn soak<R: Threads + Sync, S: Stopper, G: Gate>(
 fn soak_report(alloc: Global, problem: &Problem, outcome: Outcome) -> Result<Report, NoMemory>
     requires of_problem { IsOfProblem (problem_view problem.now) outcome }
     requires no_pause { IsEnd outcome }
-    ensures { IfOk result (λ report. IsReportOf (problem_view problem.now) outcome report.status report.text.items) }
+    ensures { IfOk result (λ report. IsReportOf (problem_view problem.now) outcome (code_of report.status) report.text.items) }
 {
     match outcome {
         Outcome::Done { residues } => done(alloc, problem, residues.as_slice()),

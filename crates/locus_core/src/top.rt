@@ -13,6 +13,7 @@ use crate::words::refuse_words as refuse_read_words;
 use crate::work::work;
 use command_line::{Commands, read};
 use locus_io::{Files, Sink, Stopper, WordsError};
+use report::Status;
 use std::alloc::Global;
 use std::thread::Threads;
 use worker_pool::{Gate, Shares};
@@ -186,7 +187,7 @@ pub fn refuse_words<E: Sink>(err: &mut E, error: WordsError) -> Answer
     ensures shares { result.shares ≡ [] }
 {
     match error {
-        WordsError::NotText => end_with(err, 2, b"words refused\n"),
-        WordsError::NoMemory => end_with(err, 9, b"want of memory\n"),
+        WordsError::NotText => end_with(err, Status::WordsRefused, b"words refused\n"),
+        WordsError::NoMemory => end_with(err, Status::NoMemory, b"want of memory\n"),
     }
 }

@@ -10,6 +10,7 @@ use crate::printing::end;
 use crate::top::Answer;
 use command_line::{Commands, WordsError, are_taken};
 use locus_io::Sink;
+use report::Status;
 
 /// Ends a run whose words ask for nothing, or were not read for want of memory: the words alone tell which it is.
 pub(crate) fn refuse_words<E: Sink>(err: &mut E, words: &[String], error: WordsError) -> Answer
@@ -19,13 +20,13 @@ pub(crate) fn refuse_words<E: Sink>(err: &mut E, words: &[String], error: WordsE
     ensures shares { result.shares ≡ [] }
 {
     match error {
-        WordsError::ByCommand(text) => end(err, 2, text.as_bytes()),
+        WordsError::ByCommand(text) => end(err, Status::WordsRefused, text.as_bytes()),
         WordsError::NoMemory if are_taken(Commands::Built, words) => end(
             err,
-            9,
+            Status::NoMemory,
             b"want of memory\n",
         ),
-        WordsError::NoMemory => end(err, 2, b"words refused\n"),
-        WordsError::Refused => end(err, 2, b"words refused\n"),
+        WordsError::NoMemory => end(err, Status::WordsRefused, b"words refused\n"),
+        WordsError::Refused => end(err, Status::WordsRefused, b"words refused\n"),
     }
 }

@@ -5,6 +5,7 @@ ghost use Rattle.command_line.specs.Limits.{IsBuilt, IsSumWithin, IsWithin};
 ghost use Rattle.command_line.specs.Requests.{sum_of_request, request_of, run, resume, soak};
 ghost use Rattle.problem_toml.specs.Generator.{generated_problem};
 ghost use Rattle.problem_toml.specs.Reading.{reading_of_any_length};
+ghost use Rattle.report.specs.Statuses.{code_of};
 ghost use Rattle.locus_core.specs.Outside.{Unchanged, files_change, stopper_change, HasFaultAt};
 ghost use Rattle.locus_core.specs.Steps.{IsWork, Loads, as_refusal};
 
@@ -13,6 +14,7 @@ use checkpoint::{CheckpointError, fresh};
 use command_line::{Command, RunRequest};
 use locus_io::{Files, LoadError, Stopper};
 use problem_toml::{ProblemError, generated, write};
+use report::Status;
 use residue::NoMemory;
 use std::alloc::Global;
 use std::thread::Threads;
@@ -27,8 +29,8 @@ const MOST_CHECKPOINT: u64 = 1_052_672;
 /// What is printed of a request.
 #[derive(Drop)]
 pub(crate) struct Printable {
-    /// The exit status: 0, 1, 4 or 5.
-    pub status: u8,
+    /// How the run ends if the text is printed whole.
+    pub status: Status,
     /// The whole text.
     pub text: Vec<u8>,
     /// How many blocks each worker worked; of a request that sums nothing there are no workers.
@@ -164,13 +166,13 @@ fn load<F: Files>(alloc: Global, files: &mut F, name: &str, most: u64) -> Result
 
 /// A text of the generated problem of a number.
 fn make(alloc: Global, number: u32) -> Result<Printable, NoMemory>
-    ensures status { IfOk result (λ made. made.status ≡ 0) }
+    ensures status { IfOk result (λ made. code_of made.status ≡ 0) }
     ensures text { IfOk result (λ made. reading_of_any_length made.text.items ≡ Ok (generated_problem number)) }
     ensures shares { IfOk result (λ made. made.shares ≡ []) }
 {
     let problem = generated(alloc, number)?;
     Ok(Printable {
-        status: 0,
+        status: Status::Done,
         text: write(alloc, &problem)?,
         shares: Shares::new(0),
     })

@@ -1,4 +1,5 @@
 pub mod Outcome
 pub mod Fractions
 pub mod Texts
+pub mod Statuses
 pub mod Report

@@ -1,16 +1,11 @@
--- What the sum of a problem comes to.
-use Rattle.std.specs.Prelude.{◌≡◌, ℕ, ◌≤◌, true, List}
+-- The least tree without an inverse.
+use Rattle.std.specs.Prelude.{◌≡◌, ℕ, ◌≤◌, true}
 use Rattle.trees.specs.Decorated.{DecoratedTree, all_trees}
 use Rattle.lists.specs.Members.{IsIn}
 use Rattle.trees.specs.TreeNumbers.{tree_of, number_of}
 use Rattle.localisation.specs.Agreement.{IsLeastBad, IsFirstBad}
 use Rattle.problem.specs.Rules.{ProblemView}
-use Rattle.problem.specs.Sums.{count_of, is_bad_of, is_bad_tree_of, is_bad_modulo, HasBadTree, AreKontsevichSums}
-
--- no decorated tree is bad, and the residues are those of each integral's Kontsevich sum over all decorated trees
-pub record HasSums (p : ProblemView) (residues : List ℕ) : Type 0 where
-  pub none_bad : ¬ HasBadTree p
-  pub sums : AreKontsevichSums p residues
+use Rattle.problem.specs.Sums.{count_of, is_bad_of, is_bad_tree_of, is_bad_modulo}
 
 -- The least number whose tree is bad, and the index of the first modulus for which it is. The tree is a decorated tree,
 -- and each decorated tree that is bad has this number or a greater one.

@@ -3,9 +3,8 @@ use Rattle.std.specs.Prelude.{◌≡◌, ℕ, List, Option, is_some, if◌then�
 use Rattle.std.specs.List.{list_all}
 use Rattle.recover_fraction.specs.declared.recovery.Fraction.{Fraction}
 use Rattle.problem.specs.Rules.{ProblemView}
-use Rattle.report.specs.Outcome.{HasSums, LacksInverse}
 use Rattle.report.specs.Fractions.{AreFractions}
-use Rattle.report.specs.Texts.{done_text, no_inverse_text}
+use Rattle.report.specs.Texts.{done_text}
 
 -- 0 if each integral has a fraction, else 1
 abbrev pub done_status : List (Option Fraction) → ℕ
@@ -17,9 +16,3 @@ pub record IsDoneReport (p : ProblemView) (residues : List ℕ) (status : ℕ) (
   pub are : AreFractions p residues fractions
   pub status_is : status ≡ done_status fractions
   pub text_is : text ≡ done_text p residues fractions
-
--- the status and the text of what a sum comes to: its residues and fractions, or the least tree without an inverse
-pub data IsReport (p : ProblemView) : ℕ → List ℕ → Type 0 where
-  done : {residues : List ℕ} {status : ℕ} {text : List ℕ} → HasSums p residues → IsDoneReport p residues status text
-      → IsReport p status text
-  no_inverse : {number place : ℕ} → LacksInverse p number place → IsReport p 4 (no_inverse_text p number place)

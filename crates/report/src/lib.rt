@@ -4,9 +4,11 @@
 
 mod fractions;
 mod report;
+mod status;
 mod text;
 
 pub use report::{Report, done, no_inverse};
+pub use status::Status;
 
 #[cfg(test)]
 mod tests;

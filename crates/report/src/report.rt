@@ -7,8 +7,10 @@ ghost use Rattle.problem.specs.Sums.{count_of};
 ghost use Rattle.report.specs.Fractions.{AreSumResidues};
 ghost use Rattle.report.specs.Texts.{no_inverse_text};
 ghost use Rattle.report.specs.Report.{IsDoneReport, done_status};
+ghost use Rattle.report.specs.Statuses.{code_of};
 
 use crate::fractions::fractions;
+use crate::status::Status;
 use crate::text::{append_integrals, append_labelled_line};
 use decorated_tree::write_text;
 use problem::Problem;
@@ -19,8 +21,9 @@ use std::alloc::Global;
 /// The status of a sum, and the text that is printed of it.
 #[derive(Drop)]
 pub struct Report {
-    /// 0 if each integral has its fraction, 1 if some integral has none, 4 if some tree has no inverse.
-    pub status: u8,
+    /// `Done` if each integral has its fraction, `NoFraction` if some integral has none, `NoInverse` if some tree has no
+    /// inverse.
+    pub status: Status,
     /// The whole text, with the line feed of its last line.
     pub text: Vec<u8>,
 }
@@ -35,7 +38,7 @@ pub struct Report {
 /// Want of memory.
 pub fn done(alloc: Global, problem: &Problem, residues: &[u64]) -> Result<Report, NoMemory>
     requires { AreSumResidues (problem_view problem.now) residues.now }
-    ensures { IfOk result (λ report. IsDoneReport (problem_view problem.now) residues.now report.status report.text.items) }
+    ensures { IfOk result (λ report. IsDoneReport (problem_view problem.now) residues.now (code_of report.status) report.text.items) }
 {
     let fractions = fractions(alloc, problem, residues)?;
     let mut text = Vec::new(alloc);
@@ -48,7 +51,7 @@ pub fn done(alloc: Global, problem: &Problem, residues: &[u64]) -> Result<Report
 }
 
 /// The report of a sum that has a tree without an inverse: the number of the tree, the modulus at `place`, and the text
-/// of the tree. The status is 4.
+/// of the tree. The status is `NoInverse`.
 ///
 /// # Errors
 /// Want of memory.
@@ -60,11 +63,14 @@ pub fn no_inverse(
 ) -> Result<Report, NoMemory>
     requires number_within { number < count_of (problem_view problem.now) }
     requires place_within { place < length problem.now.moduli }
-    ensures status { IfOk result (λ report. report.status ≡ 4) }
+    ensures status { IfOk result (λ report. code_of report.status ≡ 4) }
     ensures text { IfOk result (λ report. report.text.items ≡ no_inverse_text (problem_view problem.now) number place) }
 {
     let text = no_inverse_lines(alloc, problem, number, place)?;
-    Ok(Report { status: 4, text })
+    Ok(Report {
+        status: Status::NoInverse,
+        text,
+    })
 }
 
 #[tactic(auto, using(std::proofs::Common::append_assoc))]
@@ -86,13 +92,13 @@ fn no_inverse_lines(
     Ok(text)
 }
 
-/// 0 if each integral has its fraction, else 1.
-fn status(fractions: &[Option<Fraction>]) -> u8
-    ensures { result ≡ done_status fractions.now }
+/// `Done` if each integral has its fraction, otherwise `NoFraction`.
+fn status(fractions: &[Option<Fraction>]) -> Status
+    ensures { code_of result ≡ done_status fractions.now }
 {
     if fractions.iter().all(|fraction| fraction.is_some()) {
-        0
+        Status::Done
     } else {
-        1
+        Status::NoFraction
     }
 }
