@@ -6,7 +6,6 @@ use Rattle.std.specs.List.{Contains}
 use Rattle.clap.specs.Walk.{Text}
 use Rattle.command_words.specs.Usages.{Slot, fits}
 use Rattle.command_words.specs.Words.{are_plains, plains_fit}
-use Rattle.command_words.proofs.Bools.{and_both}
 use Rattle.command_words.proofs.Consequences.{number_within}
 use Rattle.command_line.specs.declared.table.Commands.{Commands}
 use Rattle.command_line.specs.declared.table.Commands.TheVariants as commands
@@ -15,6 +14,10 @@ use Rattle.command_line.specs.Requests as request
 use Rattle.command_line.specs.Given.{request_named}
 use Rattle.command_line.specs.Table.{CommandRule, all_commands, rules_of}
 use Rattle.command_line.specs.Table as table
+
+pub and_both : (a b : Bool) → (a && b) ≡ true → (a ≡ true) × (b ≡ true)
+and_both true b e = (refl, e)
+and_both false b e = absurd (false≢true e)
 
 -- ---- as many positional arguments as there are slots
 

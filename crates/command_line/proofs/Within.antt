@@ -20,8 +20,7 @@ use Rattle.command_line.specs.Requests.{Options, Request, number_or, workers_in,
 use Rattle.command_line.specs.Requests as asks_for
 use Rattle.command_line.specs.Table.{CommandRule, rules_of}
 use Rattle.command_line.specs.Table as table
-use Rattle.command_words.proofs.Bools.{and_both}
-use Rattle.command_line.proofs.Rules.{one_word, two_words, three_words}
+use Rattle.command_line.proofs.Rules.{one_word, two_words, three_words, and_both}
 
 -- ---- the values of options
 

@@ -10,8 +10,10 @@ use locus_io::{MemoryFiles, MemorySink, OpenGate, ScriptedStopper};
 use std::alloc::Global;
 use std::test::Fail;
 use std::thread::Threads;
+use worker_pool::Gate;
 
 mod cases;
+mod meeting;
 
 // What the conics of the projective line come to.
 const CONIC_SUM: &str = "trees 8\nresidue 101 38\nresidue 1001 876\nfraction 1/8\n";
@@ -83,6 +85,17 @@ fn outcome<R: Threads + Sync>(
     words: &[&str],
     outside: &Outside<'_>,
 ) -> Result<Ended, Fail> {
+    outcome_by(rt, alloc, words, outside, &OpenGate)
+}
+
+// The same with workers that pass a gate.
+fn outcome_by<R: Threads + Sync, G: Gate>(
+    rt: &R,
+    alloc: Global,
+    words: &[&str],
+    outside: &Outside<'_>,
+    gate: &G,
+) -> Result<Ended, Fail> {
     let mut list = Vec::new(alloc);
     for word in words {
         list.push(String::from_str(alloc, word)?)?;
@@ -104,7 +117,7 @@ fn outcome<R: Threads + Sync>(
         &mut out,
         &mut err,
         &mut stopper,
-        &OpenGate,
+        gate,
     );
     let mut sum = 0u64;
     for worker in 0..answer.shares.len() {
