@@ -1,6 +1,6 @@
 -- What each call of the builder adds to the command.
 use Rattle.std.proofs.Common.{◌≡◌, ℕ, ◌+◌, ◌<◌, List, [], ◌∷◌, map, drop, get_or, length, Bool, false, ◌||◌, ap, sym, ◌∙◌, rules}
-use Rattle.std.proofs.lemmas.List.{append_assoc, append-nil, drop_more}
+use Rattle.std.proofs.lemmas.List.{append_assoc, drop_more}
 use Rattle.std.specs.Prelude.{nat_lt}
 use Rattle.clap.specs.Built.{AddsArg, AddsSubcommand}
 use Rattle.clap.specs.Walk.{Rule, rule_of}
@@ -61,8 +61,3 @@ sub_made old sub new place table d base lt adds is local e =
           ∙ sym (ap (λ xs. with_subs (app_of old) (map shape_for (map usage_of xs))) (drop_more table place d lt)) ∙ e,
       ap (λ (a : App). a.top.is_leaf) made,
     )
-
-pub subs_end : (a : App) → a.top.is_leaf ≡ false → with_subs a [] ≡ a
-subs_end a e =
-    ap (λ ss. record { top = record a.top { is_leaf = false }; subs = ss }) (append-nil a.subs)
-    ∙ ap (λ b. record { top = record a.top { is_leaf = b }; subs = a.subs }) (sym e)

@@ -1,5 +1,5 @@
 mod Args
-mod Bools
+pub mod Bools
 pub mod Building
 pub mod Consequences
 mod Free

@@ -66,10 +66,6 @@ abbrev pub empty : Kinds → Bool
 empty [] = true
 empty (k ∷ ks) = false
 
-pub empty-or_else : (a b : Kinds) → empty (or_else a b) ≡ (empty a && empty b)
-empty-or_else [] b = refl
-empty-or_else (k ∷ ks) b = refl
-
 -- the use passes: its argument was not given, and the value is within its limit
 abbrev pub passes : Arg → Text → Given → Bool
 passes a x given = not (has_name a.id given) && fits a.limit x

@@ -14,7 +14,7 @@ use Rattle.command_words.specs.Words.{Item, plain, option, Says, nothing, bare_w
 use Rattle.command_words.specs.Rows.{usage_named}
 use Rattle.command_words.specs.Told.{has_option, is_only, plain_test, test_by, used_from, value_from}
 use Rattle.command_words.specs.Taken.{AreTaken}
-use Rattle.command_words.proofs.Bools.{and_both, not_true}
+use Rattle.command_words.proofs.Bools.{and_both, not_true, plain_step, plain_none}
 use Rattle.command_words.proofs.Law.{row_named, row_there, sound_names}
 use Rattle.command_words.proofs.Said.{alone_long, alone_word, attached_cut, attached_long, not_empty, plain_long, some_bytes}
 use Rattle.command_words.proofs.Top.{name_is}
@@ -44,15 +44,6 @@ none_left : (b : Bool) → b ≡ ((b && true) && (true && true))
 none_left true = refl
 none_left false = refl
 
-no_slot : (a b : Bool) → false ≡ ((a && false) && b)
-no_slot true b = refl
-no_slot false b = refl
-
-plain_first : (f a b c : Bool) → (f && ((a && b) && c)) ≡ ((a && (f && b)) && c)
-plain_first true a b c = refl
-plain_first false true b c = refl
-plain_first false false b c = refl
-
 option_first : (f h a l d : Bool) → ((f && not h) && (a && (l && d))) ≡ (a && ((f && l) && (not h && d)))
 option_first true true true true d = refl
 option_first true true true false d = refl
@@ -72,9 +63,9 @@ option_told options slots least name value ws is n e =
 plain_told : (options slots : List Slot) (least : ℕ) (w : Text) (ws : List Text) (is : List Item) → is_plain w ≡ true
     → ((slots : List Slot) (least : ℕ) → used_from options ws slots least ≡ is_use_from options slots least is)
     → plain_test w (used_from options ws) slots least ≡ is_use_from options slots least (plain w ∷ is)
-plain_told options [] least w ws is p e = no_slot (nat_le least (suc (length (plains_in is)))) _
+plain_told options [] least w ws is p e = plain_none (nat_le least (suc (length (plains_in is)))) _
 plain_told options (s ∷ slots) least w ws is p e =
-    rw (p, e slots (least - 1), fewer least (length (plains_in is))) (plain_first (fits s.limit w) _ _ _)
+    rw (p, e slots (least - 1), fewer least (length (plains_in is))) (plain_step (fits s.limit w) _ _ _)
 
 told : (options : List Slot) (ws : List Text) (is : List Item) → Says ws is → (slots : List Slot) (least : ℕ)
     → used_from options ws slots least ≡ is_use_from options slots least is

@@ -16,7 +16,7 @@ use Rattle.command_words.specs.Rows.{has_name, values_in}
 use Rattle.command_words.proofs.Args.{are_different, ids_of, args_for, option_arg, flipped, place_after, plain_args, same_text}
 use Rattle.command_words.proofs.Rows.{Given}
 use Rattle.command_words.proofs.Passing.{by_place, given_after, lacks, put, take_items, then_use}
-use Rattle.command_words.proofs.Bools.{and_false, or_true, or_end, or_false, or_assoc, and_both, not_true}
+use Rattle.command_words.proofs.Bools.{and_false, or_true, or_end, or_false, or_assoc, and_both, not_true, plain_step, plain_none}
 use Rattle.command_words.proofs.Lookups.{apart, next_place, first_arg, place_found, long_found, slot_found, AreNew, first_among, lacks_after}
 
 -- ---- one item after the other
@@ -37,15 +37,6 @@ option_step true f false l false e = refl
 option_step false true a l d e = refl
 option_step false false true l d e = refl
 option_step false false false l d e = refl
-
-plain_step : (f a p r : Bool) → (f && ((a && p) && r)) ≡ ((a && (f && p)) && r)
-plain_step true a p r = refl
-plain_step false true p r = refl
-plain_step false false p r = refl
-
-plain_none : (a r : Bool) → false ≡ ((a && false) && r)
-plain_none true r = refl
-plain_none false r = refl
 
 option_none : (a l d : Bool) → false ≡ (a && ((false && l) && d))
 option_none true l d = refl
