@@ -51,93 +51,23 @@ fn at_vertex(
 
 #[test]
 fn parts_at_edges(rt: HostRuntime) -> Result<(), Fail> {
-    let five = [1, 10, 100, 1000, 10_000];
-    let quintic = Class::Hypersurface { b: 5 };
-    let most = Class::Hypersurface { b: 64 };
-    for (weights, class, ends, a, modulus, residue) in [
-        ([1, 3].as_slice(), R1, (0, 1), 2, 101, Some(99)),
-        ([1, 3].as_slice(), R1, (0, 1), 1, 3, Some(1)),
-        (
-            [1, 3].as_slice(),
-            Class::R1 { k: 2 },
-            (1, 0),
-            3,
-            1001,
-            Some(252),
-        ),
-        ([0, 0, 5].as_slice(), R1, (0, 2), 1, 9, Some(1)),
-        (
-            five.as_slice(),
-            Class::R1 { k: 64 },
-            (2, 0),
-            10,
-            PRIME,
-            Some(2_494_726_207_236_321_893),
-        ),
-        ([1, 3].as_slice(), LINE, (0, 1), 1, 101, Some(3)),
-        (
-            five.as_slice(),
-            quintic,
-            (0, 4),
-            2,
-            PRIME,
-            Some(2_599_602_052_948_752_881),
-        ),
-        (
-            five.as_slice(),
-            most,
-            (3, 1),
-            10,
-            PRIME,
-            Some(1_920_394_017_556_882_832),
-        ),
-        (
-            five.as_slice(),
-            most,
-            (3, 1),
-            10,
-            GREATEST,
-            Some(1_198_124_079_849_844_972),
-        ),
-        ([1, 3].as_slice(), Class::Contact, (0, 1), 1, 101, Some(4)),
-        (
-            five.as_slice(),
-            Class::Contact,
-            (2, 1),
-            10,
-            GREATEST,
-            Some(2_950_092_077_625_895_493),
-        ),
+    let rows: [(&[i64], Class, (u8, u8), u8, u64, Option<u64>); 12] = [
+        (&[1, 3], R1, (0, 1), 2, 101, Some(99)),
+        (&[1, 3], R1, (0, 1), 1, 3, Some(1)),
+        (&[1, 3], Class::R1 { k: 2 }, (1, 0), 3, 1001, Some(252)),
+        (&[0, 0, 5], R1, (0, 2), 1, 9, Some(1)),
+        (&[1, 3], LINE, (0, 1), 1, 101, Some(3)),
+        (&[1, 3], Class::Contact, (0, 1), 1, 101, Some(4)),
         // The degree is no unit.
-        ([1, 3].as_slice(), R1, (0, 1), 3, 9, None),
-        ([1, 3].as_slice(), LINE, (0, 1), 3, 9, None),
-        ([1, 3].as_slice(), Class::Contact, (0, 1), 3, 9, None),
+        (&[1, 3], R1, (0, 1), 3, 9, None),
+        (&[1, 3], LINE, (0, 1), 3, 9, None),
+        (&[1, 3], Class::Contact, (0, 1), 3, 9, None),
         // A class with no part there has 1 over 1.
-        (
-            [1, 3].as_slice(),
-            Class::Incidence { q: 2 },
-            (0, 1),
-            3,
-            9,
-            Some(1),
-        ),
-        (
-            [1, 3].as_slice(),
-            Class::Mark { mark: 1 },
-            (0, 1),
-            3,
-            9,
-            Some(1),
-        ),
-        (
-            [1, 3].as_slice(),
-            Class::Psi { mark: 1 },
-            (0, 1),
-            3,
-            9,
-            Some(1),
-        ),
-    ] {
+        (&[1, 3], Class::Incidence { q: 2 }, (0, 1), 3, 9, Some(1)),
+        (&[1, 3], Class::Mark { mark: 1 }, (0, 1), 3, 9, Some(1)),
+        (&[1, 3], Class::Psi { mark: 1 }, (0, 1), 3, 9, Some(1)),
+    ];
+    for (weights, class, ends, a, modulus, residue) in rows {
         let found = at_edge(&rt, weights, &class, ends, a, modulus)?;
         assert_eq!(rt; found, residue, "{class:?} at degree {a} modulo {modulus}");
     }
@@ -145,61 +75,68 @@ fn parts_at_edges(rt: HostRuntime) -> Result<(), Fail> {
 }
 
 #[test]
-fn parts_at_vertices(rt: HostRuntime) -> Result<(), Fail> {
+fn parts_at_edges_modulo_great_numbers(rt: HostRuntime) -> Result<(), Fail> {
     let five = [1, 10, 100, 1000, 10_000];
-    let cubic = Class::Hypersurface { b: 3 };
-    for (weights, class, c, s, modulus, residue) in [
-        ([1, 3].as_slice(), R1, 0, 1, 101, Some(1)),
-        ([1, 3].as_slice(), R1, 1, 3, 101, Some(9)),
-        (
-            five.as_slice(),
-            Class::R1 { k: 64 },
-            4,
-            10,
-            GREATEST,
-            Some(3_047_162_343_312_120_803),
-        ),
-        (
-            [1, 3].as_slice(),
-            Class::Hypersurface { b: 5 },
-            1,
-            2,
-            101,
-            Some(27),
-        ),
-        (
-            five.as_slice(),
-            Class::Hypersurface { b: 64 },
-            4,
-            10,
-            PRIME,
-            Some(1_218_126_318_340_719_410),
-        ),
-        (
-            five.as_slice(),
-            Class::Contact,
-            3,
-            10,
-            PRIME,
-            Some(2_378_040_865_783_020_686),
-        ),
-        ([-7, 3].as_slice(), Class::Contact, 0, 4, 1001, Some(259)),
-        // b L_c is no unit, and its power 0 is 1.
-        ([1, 3].as_slice(), cubic, 0, 2, 9, None),
-        ([1, 3].as_slice(), cubic, 0, 1, 9, Some(1)),
-        ([0, 1].as_slice(), LINE, 0, 2, 101, None),
-        ([0, 1].as_slice(), LINE, 0, 1, 101, Some(1)),
-        (
-            [1, 3].as_slice(),
-            Class::Incidence { q: 2 },
-            0,
-            4,
-            9,
-            Some(1),
-        ),
+    let roots = Class::R1 { k: 64 };
+    let quintic = Class::Hypersurface { b: 5 };
+    let most = Class::Hypersurface { b: 64 };
+    let contact = Class::Contact;
+    for (class, ends, a, modulus, residue) in [
+        (roots, (2, 0), 10, PRIME, 2_494_726_207_236_321_893),
+        (quintic, (0, 4), 2, PRIME, 2_599_602_052_948_752_881),
+        (most, (3, 1), 10, PRIME, 1_920_394_017_556_882_832),
+        (most, (3, 1), 10, GREATEST, 1_198_124_079_849_844_972),
+        (contact, (2, 1), 10, GREATEST, 2_950_092_077_625_895_493),
     ] {
+        let found = at_edge(&rt, &five, &class, ends, a, modulus)?;
+        assert_eq!(rt;
+            found,
+            Some(residue),
+            "{class:?} at degree {a} modulo {modulus}"
+        );
+    }
+    Ok(())
+}
+
+#[test]
+fn parts_at_vertices(rt: HostRuntime) -> Result<(), Fail> {
+    let cubic = Class::Hypersurface { b: 3 };
+    let quintic = Class::Hypersurface { b: 5 };
+    let rows: [(&[i64], Class, u8, u8, u64, Option<u64>); 9] = [
+        (&[1, 3], R1, 0, 1, 101, Some(1)),
+        (&[1, 3], R1, 1, 3, 101, Some(9)),
+        (&[1, 3], quintic, 1, 2, 101, Some(27)),
+        (&[-7, 3], Class::Contact, 0, 4, 1001, Some(259)),
+        // b L_c is no unit, and its power 0 is 1.
+        (&[1, 3], cubic, 0, 2, 9, None),
+        (&[1, 3], cubic, 0, 1, 9, Some(1)),
+        (&[0, 1], LINE, 0, 2, 101, None),
+        (&[0, 1], LINE, 0, 1, 101, Some(1)),
+        (&[1, 3], Class::Incidence { q: 2 }, 0, 4, 9, Some(1)),
+    ];
+    for (weights, class, c, s, modulus, residue) in rows {
         let found = at_vertex(&rt, weights, &class, c, s, modulus)?;
         assert_eq!(rt; found, residue, "{class:?} at {s} edges modulo {modulus}");
+    }
+    Ok(())
+}
+
+#[test]
+fn parts_at_vertices_modulo_great_numbers(rt: HostRuntime) -> Result<(), Fail> {
+    let five = [1, 10, 100, 1000, 10_000];
+    let roots = Class::R1 { k: 64 };
+    let most = Class::Hypersurface { b: 64 };
+    for (class, c, modulus, residue) in [
+        (roots, 4, GREATEST, 3_047_162_343_312_120_803),
+        (most, 4, PRIME, 1_218_126_318_340_719_410),
+        (Class::Contact, 3, PRIME, 2_378_040_865_783_020_686),
+    ] {
+        let found = at_vertex(&rt, &five, &class, c, 10, modulus)?;
+        assert_eq!(rt;
+            found,
+            Some(residue),
+            "{class:?} at 10 edges modulo {modulus}"
+        );
     }
     Ok(())
 }
@@ -280,93 +217,87 @@ fn value_at(
 
 #[test]
 fn values_of_classes(rt: HostRuntime) -> Result<(), Fail> {
-    let five = [1, 10, 100, 1000, 10_000];
-    let quintic = Class::Hypersurface { b: 5 };
-    for (weights, class, drawn, modulus, residue) in [
-        ([1, 3].as_slice(), R1, LINE_OF_DEGREE_2, 101, Some(99)),
-        ([1, 3].as_slice(), R1, PATH, 101, Some(98)),
-        (
-            [1, 3].as_slice(),
-            Class::Mark { mark: 1 },
-            PATH,
-            101,
-            Some(1),
-        ),
-        (
-            [1, 3].as_slice(),
-            Class::Psi { mark: 1 },
-            PATH,
-            101,
-            Some(1),
-        ),
-        (
-            [1, 3].as_slice(),
-            Class::Incidence { q: 2 },
-            PATH,
-            101,
-            Some(8),
-        ),
-        (
-            [1, 3].as_slice(),
-            Class::Incidence { q: 3 },
-            LINE_OF_DEGREE_2,
-            1001,
-            Some(26),
-        ),
-        (
-            five.as_slice(),
-            quintic,
-            STAR,
-            PRIME,
-            Some(2_045_683_565_202_579_500),
-        ),
-        (five.as_slice(), quintic, STAR, 9, None),
-        (
-            five.as_slice(),
-            Class::Contact,
-            STAR,
-            PRIME,
-            Some(3_002_746_047_413_600_569),
-        ),
-        (
-            five.as_slice(),
-            Class::R1 { k: 2 },
-            STAR,
-            PRIME,
-            Some(1_608_939_971_013_787_278),
-        ),
-        (
-            five.as_slice(),
-            Class::Incidence { q: 12 },
-            STAR,
-            GREATEST,
-            Some(3_178_221_597_698_528_691),
-        ),
-        (
-            five.as_slice(),
-            Class::Mark { mark: 4 },
-            STAR,
-            GREATEST,
-            Some(10_000),
-        ),
-        (
-            five.as_slice(),
-            Class::Mark { mark: 3 },
-            STAR,
-            GREATEST,
-            Some(1),
-        ),
+    for (class, drawn, modulus, residue) in [
+        (R1, LINE_OF_DEGREE_2, 101, 99),
+        (R1, PATH, 101, 98),
+        (Class::Mark { mark: 1 }, PATH, 101, 1),
+        (Class::Psi { mark: 1 }, PATH, 101, 1),
+        (Class::Incidence { q: 2 }, PATH, 101, 8),
+        (Class::Incidence { q: 3 }, LINE_OF_DEGREE_2, 1001, 26),
     ] {
-        let found = value_at(&rt, weights, &class, drawn, modulus)?;
-        assert_eq!(rt; found, residue, "{class:?} modulo {modulus}");
+        let found = value_at(&rt, &[1, 3], &class, drawn, modulus)?;
+        assert_eq!(rt; found, Some(residue), "{class:?} modulo {modulus}");
     }
     Ok(())
 }
 
 #[test]
+fn values_of_classes_at_a_star(rt: HostRuntime) -> Result<(), Fail> {
+    let five = [1, 10, 100, 1000, 10_000];
+    let quintic = Class::Hypersurface { b: 5 };
+    let squares = Class::R1 { k: 2 };
+    let most = Class::Incidence { q: 12 };
+    for (class, modulus, residue) in [
+        (quintic, PRIME, Some(2_045_683_565_202_579_500)),
+        (quintic, 9, None),
+        (Class::Contact, PRIME, Some(3_002_746_047_413_600_569)),
+        (squares, PRIME, Some(1_608_939_971_013_787_278)),
+        (most, GREATEST, Some(3_178_221_597_698_528_691)),
+        (Class::Mark { mark: 4 }, GREATEST, Some(10_000)),
+        (Class::Mark { mark: 3 }, GREATEST, Some(1)),
+    ] {
+        let found = value_at(&rt, &five, &class, STAR, modulus)?;
+        assert_eq!(rt; found, residue, "{class:?} modulo {modulus}");
+    }
+    Ok(())
+}
+
+fn term_at(
+    rt: &impl Abort,
+    weights: &[i64],
+    term: &Term,
+    drawn: &Drawn,
+    modulus: u64,
+) -> Result<Option<u64>, Fail> {
+    let setup = Setup::new(weights)?;
+    let modulus = Modulus::new(modulus)?;
+    let parts = parts_of(rt, drawn)?;
+    assert!(rt; parts.rank() <= setup.rank());
+    assert!(rt; are_powers_for(term.classes.as_slice(), parts.mark_count()));
+    Ok(
+        term_ratio(&setup, term, &parts, &modulus)
+            .residue(&modulus)
+            .ok(),
+    )
+}
+
+#[test]
 fn values_of_terms(rt: HostRuntime) -> Result<(), Fail> {
     let alloc = rt.alloc();
-    let several = vec![in alloc;
+    let powers = vec![in alloc;
+        Power {
+            class: R1,
+            power: 2
+        },
+    ]?;
+    let square = Term {
+        coefficient: 1,
+        classes: Powers::of(powers),
+    };
+    let found = term_at(&rt, &[1, 3], &square, LINE_OF_DEGREE_2, 101)?;
+    assert_eq!(rt; found, Some(4));
+    let number = Term {
+        coefficient: -3,
+        classes: Powers::of(Vec::new(alloc)),
+    };
+    let found = term_at(&rt, &[1, 3], &number, LINE_OF_DEGREE_2, 101)?;
+    assert_eq!(rt; found, Some(98));
+    Ok(())
+}
+
+#[test]
+fn values_of_terms_with_several_classes(rt: HostRuntime) -> Result<(), Fail> {
+    let powers = vec![in rt.alloc();
         Power {
             class: Class::Hypersurface { b: 5 },
             power: 1
@@ -384,7 +315,19 @@ fn values_of_terms(rt: HostRuntime) -> Result<(), Fail> {
             power: 9
         },
     ]?;
-    let beyond = vec![in alloc;
+    let term = Term {
+        coefficient: -1_000_000_000,
+        classes: Powers::of(powers),
+    };
+    let five = [1, 10, 100, 1000, 10_000];
+    let found = term_at(&rt, &five, &term, STAR, PRIME)?;
+    assert_eq!(rt; found, Some(1_460_407_797_582_962_942));
+    Ok(())
+}
+
+#[test]
+fn a_term_without_a_value(rt: HostRuntime) -> Result<(), Fail> {
+    let powers = vec![in rt.alloc();
         Power {
             class: Class::R1 { k: 2 },
             power: 64
@@ -394,52 +337,13 @@ fn values_of_terms(rt: HostRuntime) -> Result<(), Fail> {
             power: 2
         },
     ]?;
-    for (weights, coefficient, classes, drawn, modulus, residue) in vec![in alloc;
-        (
-            [1, 3, 0, 0, 0],
-            1,
-            vec![in alloc;
-                Power {
-                    class: R1,
-                    power: 2
-                }
-            ]?,
-            LINE_OF_DEGREE_2,
-            101,
-            Some(4)
-        ),
-        (
-            [1, 3, 0, 0, 0],
-            -3,
-            Vec::new(alloc),
-            LINE_OF_DEGREE_2,
-            101,
-            Some(98)
-        ),
-        (
-            [1, 10, 100, 1000, 10_000],
-            -1_000_000_000,
-            several,
-            STAR,
-            PRIME,
-            Some(1_460_407_797_582_962_942)
-        ),
-        ([1, 10, 100, 1000, 10_000], 7, beyond, STAR, GREATEST, None),
-    ]? {
-        let setup = Setup::new(&weights)?;
-        let modulus = Modulus::new(modulus)?;
-        let term = Term {
-            coefficient,
-            classes: Powers::of(classes),
-        };
-        let parts = parts_of(&rt, drawn)?;
-        assert!(rt; parts.rank() <= setup.rank());
-        assert!(rt; are_powers_for(term.classes.as_slice(), parts.mark_count()));
-        let found = term_ratio(&setup, &term, &parts, &modulus)
-            .residue(&modulus)
-            .ok();
-        assert_eq!(rt; found, residue, "{coefficient} modulo {}", modulus.get());
-    }
+    let term = Term {
+        coefficient: 7,
+        classes: Powers::of(powers),
+    };
+    let five = [1, 10, 100, 1000, 10_000];
+    let found = term_at(&rt, &five, &term, STAR, GREATEST)?;
+    assert_eq!(rt; found, None);
     Ok(())
 }
 

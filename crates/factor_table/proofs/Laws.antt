@@ -1,6 +1,5 @@
--- What the rule says of a key's word, and what is known after a call.
-use Rattle.std.proofs.Common.{◌≡◌, ℕ, ◌<◌, ⊎_elim, List, [], ◌∷◌, ◌++◌, length, get_or, Contains, sym, subst}
-use Rattle.std.proofs.lemmas.List.Elements.{Contains-push, Contains-append_left}
+-- What the rule says of a key's word.
+use Rattle.std.proofs.Common.{◌≡◌, ℕ, ◌<◌, ⊎_elim, List, length, get_or, Contains, subst}
 use mathlib.Core.Option.{some}
 use lib.ListN.{get_elem?}
 use Rattle.factor_table.specs.declared.key.Key.{Key}
@@ -34,13 +33,3 @@ stays_zero p words views key m h within none =
     let same = one_to_one (sizes_of p) f.key key f.modulus m f.is_key.within within f.its_place in
     absurd (none (subst (HasFraction p) same.0 f.is_key.has_fraction)))
     (h.factors place (place_from (sizes_of p) key m))
-
--- ---- what is known after a call: the place of its key, and all that was known before
-
-pub knows_now : (before after : List ℕ) (place : ℕ) → after ≡ before ++ place ∷ [] → Contains after place
-knows_now before after place e = subst (λ known. Contains known place) (sym e) (Contains-push before place)
-
-pub knows_still : (before more after : List ℕ) (place : ℕ) → after ≡ before ++ more → Contains before place
-    → Contains after place
-knows_still before more after place e there =
-    subst (λ known. Contains known place) (sym e) (Contains-append_left before more place there)

@@ -1,5 +1,5 @@
 -- Words and the answers that they stand for.
-use Rattle.std.proofs.Common.{◌≡◌, ◌≢◌, ℕ, ◌-◌, ◌^◌, ◌<◌, inl, inr, Result, Ok, Err, refl, subst, arith}
+use Rattle.std.proofs.Common.{◌≡◌, ◌≢◌, ℕ, ◌-◌, inl, inr, Result, Ok, Err, refl, subst, arith}
 use Rattle.arithmetic.specs.Fractions.{Fraction, IsResidue}
 use Rattle.residue.specs.declared.errors.NoUnit.{NoUnit}
 use Rattle.residue.specs.Answers.{GivesResidue}
@@ -22,9 +22,3 @@ value_of_word m f word (inl t) differs =
     let e = t.2 in let x : t.0 ≡ word - 1 = omega arith in
     record { value = subst (IsResidue m f) x t.1; refused = (λ h. cc, λ h. absurd (h t.1.unit)) }
 value_of_word m f word (inr t) differs = absurd (differs t.1)
-
--- 2^64 - 1 says that the bottom is no unit
-pub no_unit_of_word : (m : ℕ) (f : Fraction) (word : ℕ) (e : NoUnit) → m < 2 ^ 62 → IsWordOf m f word
-    → word ≡ 18446744073709551615 → GivesResidue m f (Err e)
-no_unit_of_word m f word e small (inl t) is = let r = t.1.below in let w = t.2 in absurd (omega arith)
-no_unit_of_word m f word e small (inr t) is = record { value = tt; refused = (λ h. t.0, λ h. refl) }

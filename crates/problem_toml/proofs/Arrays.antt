@@ -72,10 +72,3 @@ pub count_here : (vs : List Value) (i : ℕ) (v : Value) (doc : Members) → i <
     → Some doc ≡ as_table (view (get_or vs i v))
     → length (tables_among (items_view (drop i vs))) ≡ length (tables_among (items_view (drop (i + 1) vs))) + 1
 count_here vs i v doc inside is = ap length (tables_here vs i v doc inside is) ∙ omega arith
-
-pub count_past : (vs : List Value) (i : ℕ) (v : Value) → i < length vs → None ≡ as_table (view (get_or vs i v))
-    → length (tables_among (items_view (drop i vs))) ≡ length (tables_among (items_view (drop (i + 1) vs)))
-count_past vs i v inside is = ap length (tables_past vs i v inside is)
-
-pub count_end : (vs : List Value) (i : ℕ) → length vs ≤ i → length (tables_among (items_view (drop i vs))) ≡ 0
-count_end vs i over = ap length (tables_end vs i over)

@@ -1,5 +1,5 @@
 -- The table of a problem reads as the problem.
-use Rattle.std.proofs.Common.{◌≡◌, ℕ, suc, ℤ, pos, ◌+◌, ◌-◌, ◌*◌, ◌^◌, ◌<◌, ◌≤◌, Bool, true, false, List, [], ◌∷◌, length, map, Option, Some, None, Ok, refl, sym, ap, subst, arith, All, sum_by, unsigned_abs, int_lt, nat_eq, le-leb, lt-ltb, eq-eqb, slice_index, max, Ordering, Less, Equal, Greater}
+use Rattle.std.proofs.Common.{◌≡◌, ℕ, suc, ℤ, pos, ◌+◌, ◌-◌, ◌*◌, ◌^◌, ◌<◌, ◌≤◌, true, false, List, [], ◌∷◌, length, map, Option, Some, None, Ok, refl, sym, ap, subst, arith, All, sum_by, unsigned_abs, int_lt, nat_eq, le-leb, lt-ltb, eq-eqb, slice_index, max, Ordering, Less, Equal, Greater}
 use Rattle.std.specs.Str.{IsUtf8}
 use Rattle.std.specs.List.{list_any}
 use Rattle.std.specs.Ordering.{match_ordering, nat_cmp}
@@ -31,12 +31,10 @@ use Rattle.problem_toml.specs.Keys.{key_of}
 use Rattle.problem_toml.specs.Kinds.{word_of, parameter_key}
 use Rattle.problem_toml.specs.Moduli.{weights_of, modulus_of, moduli_from, coprime_to, coprime_from, bounds_fit}
 use Rattle.problem_toml.specs.Reading.{moduli_of, degrees_fit, all_degrees_fit, shape_fits, problem_with, problem_of, reading_of_any_length}
-use Rattle.problem_toml.specs.Steps.{keep}
 use Rattle.problem_toml.specs.Tables.{integers_in, integer_at, integers_at, tables_at, all_present, all_known, all_tables, tables_among, within, count_within}
 use Rattle.problem_toml.specs.Terms.{term_of, terms_from}
 use Rattle.problem_toml.specs.Versions.{version_of, list_key, needed, known}
 use Rattle.problem_toml.specs.Writing.{insert_member, integer_items, table_items, kind_for, parameter_of, with_parameter, power_table, term_table, integral_table, table_of}
-use Rattle.problem_toml.specs.declared.error.ProblemError.{ProblemError}
 use Rattle.problem_toml.specs.declared.header.Header.{Header}
 use Rattle.problem_toml.specs.declared.name.Name.{Name}
 use Rattle.problem_toml.specs.declared.name.Name.TheVariants as key
@@ -53,9 +51,6 @@ integers_again place name (z ∷ zs) = rw (integers_again place name zs)
 within_again : (place : Place) (name : Name) (least most n : ℕ) → least ≤ n → n ≤ most
     → within place name least most (pos n) ≡ Ok n
 within_again place name least most n low high = grind (arith, common_steps)
-
-keep_again : (holds : Bool) (refusal : ProblemError) → holds ≡ true → keep holds refusal ≡ Ok tt
-keep_again holds refusal e = rw e
 
 count_again : (place : Place) (name : Name) (least most n : ℕ) → least ≤ n → n ≤ most
     → count_within place name least most n ≡ Ok tt

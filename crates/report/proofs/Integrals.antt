@@ -1,5 +1,5 @@
 -- The residues of one integral.
-use Rattle.std.proofs.Common.{◌≡◌, ℕ, ◌+◌, ◌*◌, ◌<◌, ◌≤◌, List, [], ◌∷◌, ◌++◌, length, drop, slice_index, get_or, Option, None, refl, sym, ap, subst, ◌∙◌, arith, ⊎_elim}
+use Rattle.std.proofs.Common.{◌≡◌, ℕ, ◌+◌, ◌*◌, ◌<◌, ◌≤◌, List, [], ◌∷◌, ◌++◌, length, drop, slice_index, get_or, Option, None, sym, ap, subst, ◌∙◌, arith, ⊎_elim}
 use Rattle.std.proofs.lemmas.List.{get_or-take, get_or-drop, get_or_append_left, get_or_push, length-append}
 use Rattle.std.proofs.lemmas.Nat.{mul-add-lt, mod-mul-add, div-mul-add}
 use Rattle.std.proofs.lemmas.Bool.{cases_lt}
@@ -47,9 +47,6 @@ pub record AreFirstFractions (p : ProblemView) (residues : List ℕ) (count : �
   pub as_many : length found ≡ count
   pub each : (i : ℕ) → i < count
       → IsOnlyFraction p.moduli (residues_of p residues i) p.top_bound p.bottom_bound (get_or found i None)
-
-pub no_fractions : (p : ProblemView) (residues : List ℕ) → AreFirstFractions p residues 0 []
-no_fractions p residues = record { as_many = refl; each = λ i h. absurd (omega (arith, h)) }
 
 pub one_more : (p : ProblemView) (residues : List ℕ) (count : ℕ) (found : List (Option Fraction)) (next : Option Fraction)
     → AreFirstFractions p residues count found

@@ -6,13 +6,9 @@ use Rattle.localisation.specs.Contribution.{kontsevich_sum}
 use Rattle.recover_fraction.specs.declared.recovery.Fraction.{Fraction}
 use Rattle.problem.specs.Rules.{ProblemView}
 use Rattle.problem.specs.Sums.{AreKontsevichSums}
-use Rattle.report.specs.Fractions.{residues_of, AreSumResidues, AreFractions, FindSums}
+use Rattle.report.specs.Fractions.{residues_of, AreFractions, FindSums}
 use Rattle.report.proofs.LowestTerms.{residue_in_lowest_terms}
 use Rattle.report.proofs.Integrals.{place_within, modulus_there, integral_there, residue_there}
-
--- sums are below their moduli
-pub reduced_from_done : (p : ProblemView) (residues : List ℕ) → AreKontsevichSums p residues → AreSumResidues p residues
-reduced_from_done p residues d = record { as_many = d.as_many; below = λ place l. (d.each place l).below }
 
 -- the residue of the sum of the integral i modulo the modulus j
 sum_residue : (p : ProblemView) (residues : List ℕ) (i j : ℕ) → AreKontsevichSums p residues → i < length p.integrals

@@ -12,7 +12,7 @@ use Rattle.localisation.proofs.AllNumbers.{residues_of_all}
 use Rattle.worker_pool.proofs.Ends.{whole_again}
 use Rattle.sum_job.specs.Parts.{block_count}
 use Rattle.rounds.specs.Rounds.{budget_end, reached, blocks_of_rounds, AreRounds}
-use Rattle.rounds.specs.Outcomes.{SumView, IsSummed, IsRoundSum, IsOutcome, IsEarly, IsOfProblem, IsProgress, KeepsTruth, ended}
+use Rattle.rounds.specs.Outcomes.{SumView, IsSummed, IsRoundSum, IsOutcome, IsOfProblem, IsProgress, KeepsTruth, ended}
 use Rattle.rounds.specs.declared.round.BadTree.{BadTree}
 use Rattle.rounds.specs.declared.progress.Progress.{Progress}
 use Rattle.locus_io.specs.Causes.{Stayed}
@@ -147,26 +147,6 @@ comes_to s budget count at sums shares is most later r = cases (at == count) ref
         let more = later apart in
         let here = r.is_at in
         record { some = omega arith; rounds = r.run; at = here; left = omega arith; summed = r.summed }
-
--- a pause before the budget's end is early, and one at it is not
-pub is_early : (s : SumView) (budget count at : ℕ) (sums : List ℕ) → count ≡ count_of s.problem → at < end_of s budget
-    → IsEarly s budget (ended count at sums)
-is_early s budget count at sums is inside = cases (at == count) refl
-  where
-    cases : (b : Bool) → (at == count) ≡ b → IsEarly s budget (if b then Done sums else Paused at sums)
-    cases true t = let e : at ≡ count = eqb-true at count t in absurd (omega arith)
-    cases false f = omega arith
-
-pub not_early : (s : SumView) (budget count at : ℕ) (sums : List ℕ) → count ≡ count_of s.problem → at ≡ end_of s budget
-    → IsEarly s budget (ended count at sums) → ⊥
-not_early s budget count at sums is e = cases (at == count) refl
-  where
-    cases : (b : Bool) → (at == count) ≡ b → IsEarly s budget (if b then Done sums else Paused at sums) → ⊥
-    cases true t early = early
-    cases false f early = clash (sym f ∙ eq-eqb at count (omega arith))
-      where
-        clash : false ≡ true → ⊥
-        clash p = cc
 
 -- true sums stay true
 pub keeps_truth : (s : SumView) (budget k : ℕ) (o : Outcome) → KeepsRules s.problem → s.next ≤ count_of s.problem

@@ -1,10 +1,9 @@
 -- What a seat knows after further words were asked for.
-use Rattle.std.proofs.Common.{◌≡◌, ℕ, [], ◌∷◌, ◌++◌}
+use Rattle.std.proofs.Common.{ℕ}
 use Rattle.factor_table.specs.declared.key.Key.{Key}
 use Rattle.factor_table.specs.declared.table.FactorTable.{FactorTable}
 use Rattle.factor_table.specs.declared.table.FactorSeat.{FactorSeat}
-use Rattle.factor_table.specs.Seats.{IsSeatOf, known_of, Knows, place_in}
-use Rattle.factor_table.proofs.Laws.{knows_still}
+use Rattle.factor_table.specs.Seats.{IsSeatOf, Knows, place_in}
 use Rattle.table_sum.specs.Words.{IsLater}
 
 pub later_same : (t : FactorTable) (s : FactorSeat) → IsSeatOf s t → IsLater t s s
@@ -12,10 +11,6 @@ later_same t s h = record { seat = h; known = λ place k. k }
 
 pub later_after : (t : FactorTable) (a b c : FactorSeat) → IsLater t a b → IsLater t b c → IsLater t a c
 later_after t a b c p q = record { seat = q.seat; known = λ place k. q.known place (p.known place k) }
-
-pub later_by_word : (t : FactorTable) (old new : FactorSeat) (place : ℕ) → IsSeatOf new t
-    → known_of new ≡ known_of old ++ place ∷ [] → IsLater t old new
-later_by_word t old new place h e = record { seat = h; known = λ q k. knows_still (known_of old) (place ∷ []) (known_of new) q e k }
 
 pub knows_later : (t : FactorTable) (old new : FactorSeat) (key : Key) (m : ℕ) → IsLater t old new → Knows old t key m
     → Knows new t key m

@@ -1,10 +1,10 @@
 -- The keys that a tree asks for are keys of the table.
-use Rattle.std.proofs.Common.{ℕ, ◌<◌, ◌≤◌, length, arith}
+use Rattle.std.proofs.Common.{ℕ, ◌<◌, length, arith}
 use Rattle.trees.specs.Decorated.{TreeShape}
 use Rattle.tree_parts.specs.declared.edges.ColouredEdge.{ColouredEdge}
 use Rattle.tree_parts.specs.Edges.{IsEdgeOf}
 use Rattle.tree_parts.specs.Ends.{IsEndOf}
-use Rattle.factor_table.specs.declared.key.Key.TheVariants.{Edge, ClassEdge, ClassVertex}
+use Rattle.factor_table.specs.declared.key.Key.TheVariants.{Edge, ClassEdge}
 use Rattle.factor_table.specs.declared.parameters.Parameters.{Parameters}
 use Rattle.factor_table.specs.Factors.{HasParts, class_at, IsKeyOf}
 use Rattle.table_sum.specs.Ends.{IsEndIn}
@@ -28,16 +28,6 @@ class_edge_key p s e class h k there has =
     let key = edge_key p s e h k in record {
       within = (there, key.within.0, key.within.1);
       has_fraction = (has, key.has_fraction);
-    }
-
-pub class_vertex_key : (p : Parameters) (s : TreeShape) (class c n : ℕ) → IsShapeIn p s → c ≤ s.rank → 1 ≤ n
-    → n ≤ s.degree → class < length p.classes → HasParts (class_at p class)
-    → IsKeyOf p (ClassVertex class c n)
-class_vertex_key p s class c n h colour some most there has =
-    let colours = h.colours in let degrees = h.degrees in
-    record {
-      within = (there, record { colour_within = omega arith; degree_positive = some; degree_within = omega arith });
-      has_fraction = has;
     }
 
 pub end_in : (p : Parameters) (s : TreeShape) (c : ℕ) (e : ℕ × ℕ) → IsShapeIn p s → IsEndOf s c e → IsEndIn p c e

@@ -158,198 +158,109 @@ fn pairs(rt: HostRuntime) -> Result<(), Fail> {
 }
 
 #[test]
-fn vertices_without_psi_classes(rt: HostRuntime) -> Result<(), Fail> {
-    let five = [1, 10, 100, 1000, 10_000];
-    for (weights, c, ends, marks, modulus, residue) in [
-        ([1, 3].as_slice(), 0, [(1, 1)].as_slice(), 0, 101, Some(99)),
-        ([1, 3].as_slice(), 1, [(0, 2)].as_slice(), 0, 1001, Some(1)),
-        ([1, 3].as_slice(), 0, [(1, 3)].as_slice(), 0, 9, None),
-        ([1, 3].as_slice(), 0, [(1, 9)].as_slice(), 1, 9, Some(1)),
-        ([1, 3].as_slice(), 0, [(1, 1)].as_slice(), 2, 101, Some(50)),
-        ([1, 4].as_slice(), 0, [(1, 1)].as_slice(), 2, 9, None),
+fn vertices_with_one_edge(rt: HostRuntime) -> Result<(), Fail> {
+    let rows: [(&[i64], u8, (u8, u8), u8, u64, Option<u64>); 7] = [
+        (&[1, 3], 0, (1, 1), 0, 101, Some(99)),
+        (&[1, 3], 1, (0, 2), 0, 1001, Some(1)),
+        (&[1, 3], 0, (1, 3), 0, 9, None),
+        (&[1, 3], 0, (1, 9), 1, 9, Some(1)),
+        (&[1, 3], 0, (1, 1), 2, 101, Some(50)),
+        (&[1, 4], 0, (1, 1), 2, 9, None),
         (
-            [1, 3].as_slice(),
+            &[1, 3],
             0,
-            [(1, 1)].as_slice(),
+            (1, 1),
             12,
             GREATEST,
             Some(4_609_434_218_613_702_655),
         ),
-        (
-            [1, 3].as_slice(),
-            0,
-            [(1, 1), (1, 1)].as_slice(),
-            0,
-            101,
-            Some(51),
-        ),
-        (
-            [1, 3].as_slice(),
-            0,
-            [(1, 1), (1, 1)].as_slice(),
-            1,
-            101,
-            Some(50),
-        ),
-        (
-            [0, 1, -1].as_slice(),
-            0,
-            [(1, 1), (2, 1)].as_slice(),
-            0,
-            101,
-            None,
-        ),
-        (
-            [0, 1, -1].as_slice(),
-            0,
-            [(1, 1), (2, 1)].as_slice(),
-            1,
-            101,
-            Some(1),
-        ),
-        (
-            [1, 3, 9].as_slice(),
-            1,
-            [(0, 1), (2, 1), (0, 2)].as_slice(),
-            0,
-            GREATEST,
-            None,
-        ),
-        (
-            five.as_slice(),
-            2,
-            [(0, 1), (1, 2), (3, 1), (4, 1), (0, 1)].as_slice(),
-            3,
-            PRIME,
-            Some(157_453_583_258_919_363),
-        ),
-        (
-            five.as_slice(),
-            4,
-            [(0, 1); 10].as_slice(),
-            12,
-            PRIME,
-            Some(1_748_553_162_525_025_780),
-        ),
-    ] {
-        let found = vertex_at(&rt, weights, c, ends, marks, modulus)?;
-        assert_eq!(rt;
-            found,
-            residue,
-            "at {c} with {marks} marks modulo {modulus}"
-        );
+    ];
+    for (weights, c, end, marks, modulus, residue) in rows {
+        let found = vertex_at(&rt, weights, c, &[end], marks, modulus)?;
+        assert_eq!(rt; found, residue, "{marks} marks at {c} modulo {modulus}");
     }
     Ok(())
 }
 
 #[test]
-fn vertices_with_psi_classes(rt: HostRuntime) -> Result<(), Fail> {
+fn vertices_with_several_edges(rt: HostRuntime) -> Result<(), Fail> {
+    let five = [1, 10, 100, 1000, 10_000];
+    let rows: [(&[i64], u8, &[(u8, u8)], u8, u64, Option<u64>); 7] = [
+        (&[1, 3], 0, &[(1, 1), (1, 1)], 0, 101, Some(51)),
+        (&[1, 3], 0, &[(1, 1), (1, 1)], 1, 101, Some(50)),
+        (&[0, 1, -1], 0, &[(1, 1), (2, 1)], 0, 101, None),
+        (&[0, 1, -1], 0, &[(1, 1), (2, 1)], 1, 101, Some(1)),
+        (&[1, 3, 9], 1, &[(0, 1), (2, 1), (0, 2)], 0, GREATEST, None),
+        (
+            &five,
+            2,
+            &[(0, 1), (1, 2), (3, 1), (4, 1), (0, 1)],
+            3,
+            PRIME,
+            Some(157_453_583_258_919_363),
+        ),
+        (
+            &five,
+            4,
+            &[(0, 1); 10],
+            12,
+            PRIME,
+            Some(1_748_553_162_525_025_780),
+        ),
+    ];
+    for (weights, c, ends, marks, modulus, residue) in rows {
+        let found = vertex_at(&rt, weights, c, ends, marks, modulus)?;
+        assert_eq!(rt; found, residue, "{marks} marks at {c} modulo {modulus}");
+    }
+    Ok(())
+}
+
+#[test]
+fn psi_classes_at_one_edge(rt: HostRuntime) -> Result<(), Fail> {
+    let rows: [(&[i64], u8, (u8, u8), &[u8], u64, Option<u64>); 8] = [
+        (&[1, 3], 0, (1, 1), &[1], 101, Some(2)),
+        (&[1, 3], 0, (1, 1), &[1, 0], 101, Some(0)),
+        (&[1, 3], 0, (1, 1), &[1, 0, 0], 101, Some(50)),
+        (&[1, 3], 0, (1, 1), &[0, 0], 101, Some(50)),
+        (&[1, 3], 1, (0, 3), &[151], 1001, Some(564)),
+        (&[1, 3], 1, (0, 3), &[2], 9, None),
+        (&[1, 4], 0, (1, 1), &[1, 0, 0], 9, None),
+        (&[1, 4], 0, (1, 1), &[2, 0, 0], 9, Some(0)),
+    ];
+    for (weights, c, end, exponents, modulus, residue) in rows {
+        let found = psi_at(&rt, weights, c, &[end], exponents, modulus)?;
+        assert_eq!(rt; found, residue, "{exponents:?} at {c} modulo {modulus}");
+    }
+    Ok(())
+}
+
+#[test]
+fn psi_classes_at_several_edges(rt: HostRuntime) -> Result<(), Fail> {
     let five = [1, 10, 100, 1000, 10_000];
     let three = [(0, 1), (1, 2), (3, 1)];
-    for (weights, c, ends, exponents, modulus, residue) in [
+    let rows: [(&[i64], u8, &[(u8, u8)], &[u8], u64, Option<u64>); 4] = [
+        (&[1, 3], 0, &[(1, 1), (1, 1)], &[], 101, Some(51)),
         (
-            [1, 3].as_slice(),
-            0,
-            [(1, 1)].as_slice(),
-            [1].as_slice(),
-            101,
-            Some(2),
-        ),
-        (
-            [1, 3].as_slice(),
-            0,
-            [(1, 1)].as_slice(),
-            [1, 0].as_slice(),
-            101,
-            Some(0),
-        ),
-        (
-            [1, 3].as_slice(),
-            0,
-            [(1, 1)].as_slice(),
-            [1, 0, 0].as_slice(),
-            101,
-            Some(50),
-        ),
-        (
-            [1, 3].as_slice(),
-            0,
-            [(1, 1)].as_slice(),
-            [0, 0].as_slice(),
-            101,
-            Some(50),
-        ),
-        (
-            [1, 3].as_slice(),
-            0,
-            [(1, 1), (1, 1)].as_slice(),
-            [].as_slice(),
-            101,
-            Some(51),
-        ),
-        (
-            [1, 3].as_slice(),
-            1,
-            [(0, 3)].as_slice(),
-            [151].as_slice(),
-            1001,
-            Some(564),
-        ),
-        (
-            [1, 3].as_slice(),
-            1,
-            [(0, 3)].as_slice(),
-            [2].as_slice(),
-            9,
-            None,
-        ),
-        (
-            [1, 4].as_slice(),
-            0,
-            [(1, 1)].as_slice(),
-            [1, 0, 0].as_slice(),
-            9,
-            None,
-        ),
-        (
-            [1, 4].as_slice(),
-            0,
-            [(1, 1)].as_slice(),
-            [2, 0, 0].as_slice(),
-            9,
-            Some(0),
-        ),
-        (
-            five.as_slice(),
+            &five,
             2,
-            three.as_slice(),
-            [1, 0, 2, 1].as_slice(),
+            &three,
+            &[1, 0, 2, 1],
             PRIME,
             Some(4_592_823_405_867_387_847),
         ),
+        (&five, 2, &three, &[1, 0, 2, 2], PRIME, Some(0)),
         (
-            five.as_slice(),
-            2,
-            three.as_slice(),
-            [1, 0, 2, 2].as_slice(),
-            PRIME,
-            Some(0),
-        ),
-        (
-            five.as_slice(),
+            &five,
             4,
-            [(0, 1); 10].as_slice(),
-            [1, 2, 3, 4, 5, 4, 0, 0, 0, 0, 0, 0].as_slice(),
+            &[(0, 1); 10],
+            &[1, 2, 3, 4, 5, 4, 0, 0, 0, 0, 0, 0],
             PRIME,
             Some(2_879_915_468_193_851_262),
         ),
-    ] {
+    ];
+    for (weights, c, ends, exponents, modulus, residue) in rows {
         let found = psi_at(&rt, weights, c, ends, exponents, modulus)?;
-        assert_eq!(rt;
-            found,
-            residue,
-            "at {c} with {exponents:?} modulo {modulus}"
-        );
+        assert_eq!(rt; found, residue, "{exponents:?} at {c} modulo {modulus}");
     }
     Ok(())
 }

@@ -60,6 +60,27 @@ fn what_is_written_reads_as_the_problem(rt: HostRuntime) -> Result<(), Fail> {
     Ok(())
 }
 
+// What the problems of all numbers have in common: two moduli, the bounds, and one integral, of the class of quintics.
+fn is_of_the_quintic(problem: &Problem) -> bool {
+    let [first, second] = problem.moduli.as_slice() else {
+        return false;
+    };
+    let [terms] = problem.integrals.as_slice() else {
+        return false;
+    };
+    let [term] = terms.as_slice() else {
+        return false;
+    };
+    let quintic = Power {
+        class: Class::Hypersurface { b: 5 },
+        power: 1,
+    };
+    (first.get(), second.get()) == (1_000_000_007, 1_000_000_009)
+        && (problem.top_bound, problem.bottom_bound) == (20_000_000_000_000, 1_000)
+        && term.coefficient == 1
+        && term.classes.as_slice() == [quintic].as_slice()
+}
+
 #[test]
 fn makes_problems_of_degree_3_and_4(rt: HostRuntime) -> Result<(), Fail> {
     let alloc = rt.alloc();
@@ -80,26 +101,7 @@ fn makes_problems_of_degree_3_and_4(rt: HostRuntime) -> Result<(), Fail> {
         assert_eq!(rt; shape.count(), count);
         let setup = Setup::new(weights).ok().ok_or("no weights")?;
         assert!(rt; are_same_weights(&problem.setup, &setup));
-        let [first, second] = problem.moduli.as_slice() else {
-            return Err("two moduli were wanted".into());
-        };
-        assert_eq!(rt; (first.get(), second.get()), (1_000_000_007, 1_000_000_009));
-        assert_eq!(rt;
-            (problem.top_bound, problem.bottom_bound),
-            (20_000_000_000_000, 1_000)
-        );
-        let [terms] = problem.integrals.as_slice() else {
-            return Err("one integral was wanted".into());
-        };
-        let [term] = terms.as_slice() else {
-            return Err("one term was wanted".into());
-        };
-        let quintic = Power {
-            class: Class::Hypersurface { b: 5 },
-            power: 1,
-        };
-        assert_eq!(rt; term.coefficient, 1);
-        assert_eq!(rt; term.classes.as_slice(), [quintic].as_slice());
+        assert!(rt; is_of_the_quintic(&problem));
         let text = write(alloc, &problem).ok().ok_or("no memory")?;
         let again = read(alloc, text.as_slice()).ok().ok_or("refused")?;
         assert!(rt; is_same(&problem, &again));
