@@ -15,7 +15,7 @@ use Rattle.locus_core.specs.Begins.{Beginning, Begins, IsTrueBeginning}
 use Rattle.locus_core.specs.Comes.{state_at}
 use Rattle.locus_core.specs.Ends.{Run, Ends}
 use Rattle.locus_core.specs.Headline.{IsDoneStatus, IsMaking}
-use Rattle.locus_core.specs.Chains.{ReadsFile, HasPrinted, IsChain, begins, resumes, PrintsKontsevichSums, NamesLeastOfAll, PausesTruly, IsAtEnd, EndsChain, EndsItsChains}
+use Rattle.locus_core.specs.Chains.{ReadsFile, HasPrinted, IsChainOfRuns, begins, resumes, PrintsKontsevichSums, NamesLeastOfAll, PausesTruly, IsAtEnd, EndsChain, EndsItsChains}
 use Rattle.locus_core.proofs.Inversions.{same_request, same_bytes, run_not_resume, run_not_make, resume_not_make, begun_by_run, begun_by_resume, not_both_read, not_both_states, same_state}
 use Rattle.locus_core.proofs.Headline.{sums, refusal, pause, bytes}
 use Rattle.locus_core.proofs.SameEnds.{same_text, Concludes, same_end}
@@ -27,7 +27,7 @@ record BeginsTruly (source : List ℕ) (p : ProblemView) (b : Beginning) : Type 
   plain : b.heading ≡ []
   truth : IsTrueBeginning b
 
-begins_truly : (source : List ℕ) (p : ProblemView) (r : Run) → IsChain source r → reading source ≡ Ok p → (request : Request) (b : Beginning)
+begins_truly : (source : List ℕ) (p : ProblemView) (r : Run) → IsChainOfRuns source r → reading source ≡ Ok p → (request : Request) (b : Beginning)
     → AsksFor r.words request → Begins r.files request b → BeginsTruly source p b
 begins_truly source p _ (begins r f) reads request b asks begun =
     let h = begun_by_run r.files request f.sum b begun (same_request r request (run f.sum) asks f.words) in
@@ -56,16 +56,16 @@ begins_truly source p _ (resumes before r text chain ends printed f) reads reque
     }
 
 -- no run of a chain makes a text, or is refused
-makes_nothing : (source : List ℕ) (r : Run) → IsChain source r → IsMaking r → ⊥
+makes_nothing : (source : List ℕ) (r : Run) → IsChainOfRuns source r → IsMaking r → ⊥
 makes_nothing source _ (begins r f) (k, asks) = run_not_make f.sum k (same_request r (run f.sum) (make k) f.words asks)
 makes_nothing source _ (resumes before r text chain ends printed f) (k, asks) =
     resume_not_make f.sum k (same_request r (resume f.sum) (make k) f.words asks)
 
-asks_something : (source : List ℕ) (r : Run) → IsChain source r → ((request : Request) → ¬ AsksFor r.words request) → ⊥
+asks_something : (source : List ℕ) (r : Run) → IsChainOfRuns source r → ((request : Request) → ¬ AsksFor r.words request) → ⊥
 asks_something source _ (begins r f) nothing = nothing (run f.sum) f.words
 asks_something source _ (resumes before r text chain ends printed f) nothing = nothing (resume f.sum) f.words
 
-problem_accepted : (source : List ℕ) (p : ProblemView) (r : Run) (n : ℕ) → Ends r n → IsChain source r → reading source ≡ Ok p → n ≢ 3
+problem_accepted : (source : List ℕ) (p : ProblemView) (r : Run) (n : ℕ) → Ends r n → IsChainOfRuns source r → reading source ≡ Ok p → n ≢ 3
 problem_accepted source p _ n e (begins r f) reads three =
     let w = (bytes r n e).problem_refused three in
     let file = ap file_in (same_request r (run f.sum) (run w.sum) f.words w.words) in
@@ -79,7 +79,7 @@ problem_accepted source p _ n e (resumes before r text chain ends printed f) rea
     let w = (bytes r n e).problem_refused three in
     run_not_resume w.sum f.sum (same_request r (run w.sum) (resume f.sum) w.words f.words)
 
-checkpoint_accepted : (source : List ℕ) (r : Run) (n : ℕ) → Ends r n → IsChain source r → n ≢ 8
+checkpoint_accepted : (source : List ℕ) (r : Run) (n : ℕ) → Ends r n → IsChainOfRuns source r → n ≢ 8
 checkpoint_accepted source _ n e (begins r f) eight =
     let w = (bytes r n e).checkpoint_refused eight in
     run_not_resume f.sum w.sum (same_request r (run f.sum) (resume w.sum) f.words w.words)
@@ -101,7 +101,7 @@ record EndsAlone (source : List ℕ) (p : ProblemView) (r : Run) (n : ℕ) : Typ
   refusal : n ≡ 4 → NamesLeastOfAll p r
   pause : n ≡ 5 → PausesTruly source p r
 
-alone : (r : Run) (n : ℕ) → Ends r n → (source : List ℕ) (p : ProblemView) → IsChain source r → reading source ≡ Ok p → EndsAlone source p r n
+alone : (r : Run) (n : ℕ) → Ends r n → (source : List ℕ) (p : ProblemView) → IsChainOfRuns source r → reading source ≡ Ok p → EndsAlone source p r n
 alone r n e source p chain reads = record {
   sums = by_sums;
   refusal = by_refusal;

@@ -33,10 +33,10 @@ pub record HasPrinted (r : Run) (text : List ℕ) : Type 0 where
 
 -- A run sums the problem of a text, or it resumes what a run of the chain printed when it paused. Each run has a budget,
 -- workers and a stop file of its own.
-pub data IsChain (source : List ℕ) : Run → Type 0 where
-  begins : (r : Run) → ReadsFile r run source → IsChain source r
-  resumes : (before after : Run) (text : List ℕ) → IsChain source before → Ends before 5 → HasPrinted before text
-      → ReadsFile after resume text → IsChain source after
+pub data IsChainOfRuns (source : List ℕ) : Run → Type 0 where
+  begins : (r : Run) → ReadsFile r run source → IsChainOfRuns source r
+  resumes : (before after : Run) (text : List ℕ) → IsChainOfRuns source before → Ends before 5 → HasPrinted before text
+      → ReadsFile after resume text → IsChainOfRuns source after
 
 -- The residues of Kontsevich's sums over all decorated trees were printed, none of which is bad, with the only fractions
 -- within the bounds that agree with them.
@@ -73,7 +73,7 @@ IsAtEnd n = IsDoneStatus n ⊎ (n ≡ 4)
 
 -- the same status and the same text as another run that ended a chain of the same source, whatever that chain was
 abbrev pub EndsAsAnother : List ℕ → Run → ℕ → Type 0
-EndsAsAnother source r n = (other : Run) (m : ℕ) (text : List ℕ) → IsChain source other → Ends other m → IsAtEnd m
+EndsAsAnother source r n = (other : Run) (m : ℕ) (text : List ℕ) → IsChainOfRuns source other → Ends other m → IsAtEnd m
     → HasPrinted other text → IsAtEnd n → (n ≡ m) × Takes r.out text
 
 -- What a run of a chain comes to, whatever the runs before it were asked to do. No run of a chain is refused.
@@ -86,4 +86,4 @@ pub record EndsChain (source : List ℕ) (p : ProblemView) (r : Run) (n : ℕ) :
 
 -- in each chain of which the run is the last one, from a text that writes a problem
 abbrev pub EndsItsChains : Run → ℕ → Type 0
-EndsItsChains r n = (source : List ℕ) (p : ProblemView) → IsChain source r → reading source ≡ Ok p → EndsChain source p r n
+EndsItsChains r n = (source : List ℕ) (p : ProblemView) → IsChainOfRuns source r → reading source ≡ Ok p → EndsChain source p r n
