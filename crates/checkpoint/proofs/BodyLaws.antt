@@ -7,9 +7,9 @@ use Rattle.std.proofs.lemmas.List.{take_at, drop_at, take-append-drop}
 use Rattle.std.proofs.lemmas.Slice.Eq.{bytes_eq-Decides}
 use Rattle.sha2.specs.Sha256.{sha256}
 use Rattle.checkpoint.specs.Readers.{and_then, after_word, number_line_at, unsealed_at, rows_at, source_at, contents_at, sound_at, written_at}
-use Rattle.checkpoint.specs.Refusals.{Parts, HasParts, IsKnownVersion, AreContents}
+use Rattle.checkpoint.specs.Refusals.{Parts, SplitsInto, IsKnownVersion, AreContents}
 use Rattle.checkpoint.specs.Steps.{◌>>=◌}
-use Rattle.checkpoint.specs.Texts.{Contents, number_line, source_text, residue_line, body_of, seal}
+use Rattle.checkpoint.specs.Texts.{Contents, number_line, source_text, residues_line, body_of, seal}
 use Rattle.checkpoint.specs.declared.error.CheckpointError.{CheckpointError}
 use Rattle.checkpoint.specs.declared.error.CheckpointError.TheVariants.{NotCheckpoint, Damaged, BadVersion, BadBody}
 use Rattle.checkpoint.proofs.Decimals.{number_line_takes, number_line_again}
@@ -69,7 +69,7 @@ source_again source rest small =
 
 -- the body without its first line
 abbrev pub rest_of : Contents → List ℕ
-rest_of c = source_text c.source ++ number_line (codes "next ") c.next ++ flat_map residue_line c.rows
+rest_of c = source_text c.source ++ number_line (codes "next ") c.next ++ flat_map residues_line c.rows
 
 regroup_four : (a s n f : List ℕ) → a ++ s ++ n ++ f ≡ a ++ (s ++ n ++ f)
 regroup_four a s n f = simp append_assoc
@@ -77,7 +77,7 @@ regroup_four a s n f = simp append_assoc
 pub body_is : (c : Contents) → body_of c ≡ number_line (codes "locus-checkpoint ") c.version ++ rest_of c
 body_is c =
     regroup_four (number_line (codes "locus-checkpoint ") c.version) (source_text c.source)
-    (number_line (codes "next ") c.next) (flat_map residue_line c.rows)
+    (number_line (codes "next ") c.next) (flat_map residues_line c.rows)
 
 some_rows : (v n : ℕ) → (eqb n 0 || (eqb v 1 && not (eqb n 1))) ≡ false → (1 ≤ n) × (v ≡ 1 → n ≡ 1)
 some_rows v n h =
@@ -135,7 +135,7 @@ contents_take version text c known h =
                 first.parts
                 ∙ ap (λ (t : List ℕ). source_text a.0.0 ++ t)
                 (second.parts ∙ ap (λ (t : List ℕ). number_line (codes "next ") b.0.0 ++ t) third.parts)
-                ∙ sym (append_assoc (source_text a.0.0) (number_line (codes "next ") b.0.0) (flat_map residue_line d.0.0));
+                ∙ sym (append_assoc (source_text a.0.0) (number_line (codes "next ") b.0.0) (flat_map residues_line d.0.0));
             contents = record { version = known; source = first.fits; next = second.fits; rows = third.fit; some = counts.0; one = counts.1 };
           })
     ]
@@ -143,12 +143,12 @@ contents_take version text c known h =
 pub contents_again : (c : Contents) → AreContents c → contents_at c.version (rest_of c) ≡ Ok c
 unfolding contents_at
 contents_again c are =
-    let after = number_line (codes "next ") c.next ++ flat_map residue_line c.rows in
+    let after = number_line (codes "next ") c.next ++ flat_map residues_line c.rows in
     let regrouped : rest_of c ≡ source_text c.source ++ after =
-    append_assoc (source_text c.source) (number_line (codes "next ") c.next) (flat_map residue_line c.rows) in
+    append_assoc (source_text c.source) (number_line (codes "next ") c.next) (flat_map residues_line c.rows) in
     ap (contents_at c.version) regrouped ∙ rw (
       source_again c.source after are.source,
-      number_line_again (codes "next ") c.next (flat_map residue_line c.rows) are.next,
+      number_line_again (codes "next ") c.next (flat_map residues_line c.rows) are.next,
       rows_again c.rows are.rows,
       rows_pass c.version (length c.rows) are.some are.one,
     ) refl
@@ -205,29 +205,29 @@ bytes_differ xs ys h = false_from_ne_true _ (λ same. h ((bytes_eq-Decides xs ys
 
 pub parts_take : (text body kept : List ℕ) (v : ℕ) (rest : List ℕ) → unsealed_at text ≡ Some (body, kept)
     → number_line_at (codes "locus-checkpoint ") body ≡ Some (v, rest)
-    → HasParts text (record { kept = kept; body = body; version = v; rest = rest })
+    → SplitsInto text (record { kept = kept; body = body; version = v; rest = rest })
 parts_take text body kept v rest sealed first =
     let s = unsealed_takes text body kept sealed in
     let n = number_line_takes (codes "locus-checkpoint ") body v rest first in
     record { whole = s.whole; digest = s.digest; first_line = n.parts; version = n.fits }
 
-pub parts_sealed : (text : List ℕ) (p : Parts) → HasParts text p → unsealed_at text ≡ Some (p.body, p.kept)
+pub parts_sealed : (text : List ℕ) (p : Parts) → SplitsInto text p → unsealed_at text ≡ Some (p.body, p.kept)
 parts_sealed text p has = ap unsealed_at has.whole ∙ unsealed_again p.body p.kept has.digest
 
-pub parts_first : (text : List ℕ) (p : Parts) → HasParts text p
+pub parts_first : (text : List ℕ) (p : Parts) → SplitsInto text p
     → number_line_at (codes "locus-checkpoint ") p.body ≡ Some (p.version, p.rest)
 parts_first text p has =
     ap (number_line_at (codes "locus-checkpoint ")) has.first_line
     ∙ number_line_again (codes "locus-checkpoint ") p.version p.rest has.version
 
-parts_written : (text : List ℕ) (p : Parts) → HasParts text p
+parts_written : (text : List ℕ) (p : Parts) → SplitsInto text p
     → written_at text ≡ sound_at p.kept p.body p.version p.rest
 unfolding written_at
 parts_written text p has = rw (parts_sealed text p has, parts_first text p has) refl
 
 -- ---- what is refused before the contents
 
-pub written_without_parts : (text : List ℕ) → ((p : Parts) → ¬ (HasParts text p)) → written_at text ≡ Err NotCheckpoint
+pub written_without_parts : (text : List ℕ) → ((p : Parts) → ¬ (SplitsInto text p)) → written_at text ≡ Err NotCheckpoint
 unfolding written_at
 written_without_parts text none = by_seal (unsealed_at text) refl
   where
@@ -245,7 +245,7 @@ written_without_parts text none = by_seal (unsealed_at text) refl
     by_seal None h = refl
     by_seal (Some x) h = by_first x.0 x.1 h (number_line_at (codes "locus-checkpoint ") x.0) refl
 
-module _ (text : List ℕ) (p : Parts) (has : HasParts text p) where
+module _ (text : List ℕ) (p : Parts) (has : SplitsInto text p) where
   pub written_damaged : p.kept ≢ sha256 p.body → written_at text ≡ Err (Damaged p.kept (sha256 p.body))
   unfolding sound_at
   written_damaged other = parts_written text p has ∙ rw (bytes_differ p.kept (sha256 p.body) other) refl

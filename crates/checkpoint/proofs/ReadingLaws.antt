@@ -6,7 +6,7 @@ use Rattle.std.proofs.lemmas.Bool.{ltb-true, ltb-false, lt-ltb, le-ltb}
 use Rattle.sha2.specs.Sha256.{sha256}
 use Rattle.problem.specs.Sums.{count_of}
 use Rattle.checkpoint.specs.Readers.{written_at, state_of, short_reading, checkpoint_reading}
-use Rattle.checkpoint.specs.Refusals.{Fits, IsKnownVersion, Writes, IsFirstCount, IsCheckpointRefusal}
+use Rattle.checkpoint.specs.Refusals.{IsShort, IsKnownVersion, Writes, IsFirstCount, IsCheckpointRefusal}
 use Rattle.checkpoint.specs.States.{StateView, IsState}
 use Rattle.checkpoint.specs.Steps.{◌>>=◌, Gives}
 use Rattle.checkpoint.specs.Texts.{Contents, IsTextOf}
@@ -46,7 +46,7 @@ read_refused text e h =
 
 -- ---- what it has to give
 
-early : (text : List ℕ) (e : CheckpointError) → Fits text → written_at text ≡ Err e → checkpoint_reading text ≡ Err e
+early : (text : List ℕ) (e : CheckpointError) → IsShort text → written_at text ≡ Err e → checkpoint_reading text ≡ Err e
 unfolding checkpoint_reading short_reading
 early text e fits h = let short : ltb 1052672 (length text) ≡ false = le-ltb _ _ fits in rw (short, h) refl
 

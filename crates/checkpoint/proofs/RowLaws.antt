@@ -7,7 +7,7 @@ use Rattle.std.proofs.lemmas.List.{append-nil}
 use Rattle.checkpoint.specs.Readers.{after_word, many, starts_with_space, goes_on, decimal_at, residue_at, residues_at, row_at, rows_at}
 use Rattle.checkpoint.specs.Refusals.{IsRow}
 use Rattle.checkpoint.specs.Steps.{◌>>=◌}
-use Rattle.checkpoint.specs.Texts.{residue_text, residue_line, rows_of}
+use Rattle.checkpoint.specs.Texts.{residue_text, residues_line, rows_of}
 use Rattle.checkpoint.specs.declared.error.CheckpointError.{CheckpointError}
 use Rattle.checkpoint.specs.declared.error.CheckpointError.TheVariants.{BadBody}
 use Rattle.checkpoint.proofs.WordLaws.{bind_ok, bind_err, ok_or_ok, ok_or_err, chosen, after_word_takes}
@@ -181,7 +181,7 @@ some_from_test : (n : ℕ) → eqb n 0 ≡ false → 1 ≤ n
 some_from_test n h = let other = eqb-false n 0 h in omega arith
 
 row_takes : (text : List ℕ) (row rest : List ℕ) → row_at text ≡ Ok (row, rest)
-    → Spelled goes_on row_at residue_line IsRow text row rest
+    → Spelled goes_on row_at residues_line IsRow text row rest
 unfolding row_at
 row_takes text row rest h =
     let last : List ℕ × List ℕ → List ℕ → Result (List ℕ × List ℕ) CheckpointError =
@@ -197,8 +197,8 @@ row_takes text row rest h =
     elim (chosen (eqb (length b.0.0) 0) (Err BadBody) (Ok (b.0.0, d.0)) (Ok (row, rest)) d.2) [
       | inl none ↦ absurd (cc none.1)
       | inr some ↦
-          let P : List ℕ × List ℕ → Type 0 = λ p. Spelled goes_on row_at residue_line IsRow text p.0 p.1 in
-          let regrouped : codes "residues" ++ (flat_map residue_text b.0.0 ++ (codes "\n" ++ d.0)) ≡ residue_line b.0.0 ++ d.0 = simp append_assoc in
+          let P : List ℕ × List ℕ → Type 0 = λ p. Spelled goes_on row_at residues_line IsRow text p.0 p.1 in
+          let regrouped : codes "residues" ++ (flat_map residue_text b.0.0 ++ (codes "\n" ++ d.0)) ≡ residues_line b.0.0 ++ d.0 = simp append_assoc in
           subst P (same_ok (b.0.0, d.0) (row, rest) some.1) (record {
             parts = first
                 ∙ ap (λ (t : List ℕ). codes "residues" ++ t)
@@ -208,10 +208,10 @@ row_takes text row rest h =
           })
     ]
 
-row_again : (row rest : List ℕ) → IsRow row → Unit {0} → row_at (residue_line row ++ rest) ≡ Ok (row, rest)
+row_again : (row rest : List ℕ) → IsRow row → Unit {0} → row_at (residues_line row ++ rest) ≡ Ok (row, rest)
 unfolding row_at
 row_again row rest fits u =
-    let regrouped : residue_line row ++ rest ≡ codes "residues" ++ (flat_map residue_text row ++ (codes "\n" ++ rest)) =
+    let regrouped : residues_line row ++ rest ≡ codes "residues" ++ (flat_map residue_text row ++ (codes "\n" ++ rest)) =
     simp append_assoc in
     let some : eqb (length row) 0 ≡ false = ne_eqb (length row) 0 (λ none. absurd (omega (arith, none, fits.some))) in
     ap row_at regrouped ∙ rw (residues_again row rest fits.numbers, some) refl
@@ -243,39 +243,39 @@ goes_on-nil [] h = refl
 goes_on-nil (b ∷ bs) h = absurd cc
 
 pub record RowsIn (text : List ℕ) (rows : List (List ℕ)) : Type 0 where
-  pub parts : text ≡ flat_map residue_line rows
+  pub parts : text ≡ flat_map residues_line rows
   pub fit : AllByRecursion IsRow rows
 
 pub rows_take : (text : List ℕ) (rows : List (List ℕ)) (rest : List ℕ) → rows_at text ≡ Ok (rows, rest)
     → RowsIn text rows
 unfolding rows_at
 rows_take text rows rest h =
-    let t = many_take goes_on row_at residue_line IsRow row_takes (length text) text rows rest h in
+    let t = many_take goes_on row_at residues_line IsRow row_takes (length text) text rows rest h in
     record {
-      parts = t.parts ∙ ap (λ (r : List ℕ). flat_map residue_line rows ++ r) (goes_on-nil rest t.ends)
-          ∙ append-nil (flat_map residue_line rows);
+      parts = t.parts ∙ ap (λ (r : List ℕ). flat_map residues_line rows ++ r) (goes_on-nil rest t.ends)
+          ∙ append-nil (flat_map residues_line rows);
       fit = t.fit;
     }
 
-line_is_some : (row : List ℕ) → 0 < length (residue_line row)
+line_is_some : (row : List ℕ) → 0 < length (residues_line row)
 line_is_some row = omega (arith, length-append (codes "residues" ++ flat_map residue_text row) (codes "\n"))
 
-pub rows_long : (rows : List (List ℕ)) → length rows ≤ length (flat_map residue_line rows)
-rows_long rows = spelled_long goes_on row_at residue_line IsRow line_is_some rows
+pub rows_long : (rows : List (List ℕ)) → length rows ≤ length (flat_map residues_line rows)
+rows_long rows = spelled_long goes_on row_at residues_line IsRow line_is_some rows
 
 pub rows_again : (rows : List (List ℕ)) → AllByRecursion IsRow rows
-    → rows_at (flat_map residue_line rows) ≡ Ok (rows, [])
+    → rows_at (flat_map residues_line rows) ≡ Ok (rows, [])
 unfolding rows_at
 rows_again rows fit =
-    let all = append-nil (flat_map residue_line rows) in
-    let le : length rows ≤ length (flat_map residue_line rows) = rows_long rows in
-    ap (λ (t : List ℕ). many goes_on row_at (length (flat_map residue_line rows)) t) (sym all)
-    ∙ many_again goes_on row_at residue_line IsRow (λ _. Unit {0}) row_again (λ row rest. refl) (λ row rest. tt)
-    (length (flat_map residue_line rows)) rows [] le fit refl tt
+    let all = append-nil (flat_map residues_line rows) in
+    let le : length rows ≤ length (flat_map residues_line rows) = rows_long rows in
+    ap (λ (t : List ℕ). many goes_on row_at (length (flat_map residues_line rows)) t) (sym all)
+    ∙ many_again goes_on row_at residues_line IsRow (λ _. Unit {0}) row_again (λ row rest. refl) (λ row rest. tt)
+    (length (flat_map residues_line rows)) rows [] le fit refl tt
 
 pub rows_err : (text : List ℕ) (e : CheckpointError) → rows_at text ≡ Err e → e ≡ BadBody
 unfolding rows_at
-rows_err text e h = many_err goes_on row_at residue_line IsRow row_err (length text) text e h
+rows_err text e h = many_err goes_on row_at residues_line IsRow row_err (length text) text e h
 
 -- ---- rows of a state
 

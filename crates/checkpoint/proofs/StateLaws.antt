@@ -9,7 +9,7 @@ use Rattle.problem.specs.Sums.{count_of}
 use Rattle.problem_toml.specs.Reading.{reading}
 use Rattle.problem_toml.specs.declared.error.ProblemError.{ProblemError}
 use Rattle.checkpoint.specs.Readers.{problem_of, shown_count, counts_fit, residues_fit, state_of}
-use Rattle.checkpoint.specs.Refusals.{Writes, WritesFor, HasNext, HasRows, HasResidues, IsFirstCount, IsFirstRefused, IsCheckpointRefusal}
+use Rattle.checkpoint.specs.Refusals.{Writes, WritesFor, HasNext, HasRows, ReachesResidues, IsFirstCount, IsFirstRefused, IsCheckpointRefusal}
 use Rattle.checkpoint.specs.States.{StateView}
 use Rattle.checkpoint.specs.Steps.{◌>>=◌, keep}
 use Rattle.checkpoint.specs.Texts.{Contents, rows_of, text_of, text_in, IsTextOf}
@@ -157,7 +157,7 @@ state_err text c e w h =
                                   let above = residues_fit_above p.moduli 0 (concat c.rows) e residues in
                                   let shown : above.place ≡ shown_count (0 + above.place) =
                                   sym (size.place above.place above.within) ∙ ap shown_count (omega arith) in
-                                  let all : HasResidues p text c = record { written = rows; residues = counts_fit_each (length p.moduli) c.rows b.1 } in
+                                  let all : ReachesResidues p text c = record { written = rows; residues = counts_fit_each (length p.moduli) c.rows b.1 } in
                                   subst (IsCheckpointRefusal text) (ap (λ (n : ℕ). ResidueRefused n) shown ∙ sym above.is) (
                                     c,
                                     p,
@@ -205,7 +205,7 @@ refused_counts text c p found rows first =
     at_counts c p (read_of text c p next.written) (ResidueCount found (length p.moduli)) next.next rows.rows
     (counts_fit_at (length p.moduli) c.rows found first.place first.within first.count first.other first.first ∙ ap (λ (n : ℕ). Err (ResidueCount n (length p.moduli))) shown)
 
-pub refused_residues : (text : List ℕ) (c : Contents) (p : ProblemView) (place : ℕ) → HasResidues p text c
+pub refused_residues : (text : List ℕ) (c : Contents) (p : ProblemView) (place : ℕ) → ReachesResidues p text c
     → IsFirstRefused p.moduli (concat c.rows) place → state_of c ≡ Err (ResidueRefused place)
 refused_residues text c p place all first =
     let rows = all.written in

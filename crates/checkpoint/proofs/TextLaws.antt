@@ -9,9 +9,9 @@ use Rattle.std.proofs.lemmas.Slice.Eq.{bytes_eq-Decides}
 use Rattle.sha2.specs.Sha256.{sha256, digest_bytes, final_hash, initial_hash_256}
 use Rattle.sha2.proofs.Facts256.{length-sha256}
 use Rattle.checkpoint.specs.Readers.{number_line_at, unsealed_at, contents_at, sound_at, written_at, shown_count, residue_at, starts_with_space}
-use Rattle.checkpoint.specs.Refusals.{Fits, IsDigest, Parts, HasParts, IsKnownVersion, AreContents, Writes, IsCheckpointRefusal}
+use Rattle.checkpoint.specs.Refusals.{IsShort, IsDigest, Parts, SplitsInto, IsKnownVersion, AreContents, Writes, IsCheckpointRefusal}
 use Rattle.checkpoint.specs.Steps.{◌>>=◌, keep}
-use Rattle.checkpoint.specs.Texts.{Contents, number_line, source_text, residue_text, residue_line, body_of, seal}
+use Rattle.checkpoint.specs.Texts.{Contents, number_line, source_text, residue_text, residues_line, body_of, seal}
 use Rattle.checkpoint.specs.declared.error.CheckpointError.{CheckpointError}
 use Rattle.checkpoint.specs.declared.error.CheckpointError.TheVariants.{NotCheckpoint, Damaged, BadVersion, BadBody}
 use Rattle.checkpoint.proofs.BodyLaws.{rest_of, body_is, ContentsIn, contents_take, contents_again, contents_err, parts_take, parts_sealed, parts_first, known_test, unknown_test, written_sound}
@@ -60,17 +60,17 @@ row_in [] i = omega arith
 row_in (row ∷ rows) zero = omega (arith, length-append row (concat rows))
 row_in (row ∷ rows) (suc i) = omega (arith, length-append row (concat rows), row_in rows i)
 
-row_long : (row : List ℕ) → length row ≤ length (residue_line row)
+row_long : (row : List ℕ) → length row ≤ length (residues_line row)
 row_long row =
     let long =
     spelled_long starts_with_space residue_at residue_text IsNumber
     (λ r. omega (arith, length-append (codes " ") (decimal r))) row in
     omega (arith, long, length-append (codes "residues" ++ flat_map residue_text row) (codes "\n"), length-append (codes "residues") (flat_map residue_text row))
 
-concat_long : (rows : List (List ℕ)) → length (concat rows) ≤ length (flat_map residue_line rows)
+concat_long : (rows : List (List ℕ)) → length (concat rows) ≤ length (flat_map residues_line rows)
 concat_long [] = omega arith
 concat_long (row ∷ rows) =
-    omega (arith, length-append row (concat rows), length-append (residue_line row) (flat_map residue_line rows), row_long row, concat_long rows)
+    omega (arith, length-append row (concat rows), length-append (residues_line row) (flat_map residues_line rows), row_long row, concat_long rows)
 
 rows_in_text : (text a s n f k : List ℕ) → text ≡ a ++ s ++ n ++ f ++ k → length f ≤ length text
 rows_in_text text a s n f k h =
@@ -84,7 +84,7 @@ pub record Sizes (c : Contents) : Type 0 where
 
 pub sizes : (text : List ℕ) (c : Contents) → Writes text c → Sizes c
 sizes text c w =
-    let f = flat_map residue_line c.rows in
+    let f = flat_map residues_line c.rows in
     let most =
     rows_in_text text (number_line (codes "locus-checkpoint ") c.version) (source_text c.source)
     (number_line (codes "next ") c.next) f (seal (sha256 (body_of c))) w.whole in
@@ -103,7 +103,7 @@ known_small v (inr two) = omega arith
 abbrev pub parts_of : Contents → Parts
 parts_of c = record { kept = sha256 (body_of c); body = body_of c; version = c.version; rest = rest_of c }
 
-pub written_parts : (text : List ℕ) (c : Contents) → Writes text c → HasParts text (parts_of c)
+pub written_parts : (text : List ℕ) (c : Contents) → Writes text c → SplitsInto text (parts_of c)
 written_parts text c w = record {
   whole = w.whole;
   digest = sha256_digest (body_of c);
@@ -116,7 +116,7 @@ written_again text c w =
     written_sound text (parts_of c) (written_parts text c w) refl w.contents.version ∙ contents_again c w.contents
 
 -- the contents of sound parts, and their fault
-module _ (text : List ℕ) (fits : Fits text) (p : Parts) (has : HasParts text p) where
+module _ (text : List ℕ) (fits : IsShort text) (p : Parts) (has : SplitsInto text p) where
   written_whole : (c : Contents) → p.kept ≡ sha256 p.body → ContentsIn p.version p.rest c → Writes text c
   written_whole c sound found =
       let body : p.body ≡ body_of c = has.first_line ∙ ap (λ (v : ℕ). number_line (codes "locus-checkpoint ") v ++ p.rest) (sym found.version_is)
@@ -183,7 +183,7 @@ first_step sealed =
     ok_or (number_line_at (codes "locus-checkpoint ") sealed.0) NotCheckpoint >>=
     (λ first. sound_at sealed.1 sealed.0 first.0 first.1)
 
-pub written_ok : (text : List ℕ) (c : Contents) → Fits text → written_at text ≡ Ok c → Writes text c
+pub written_ok : (text : List ℕ) (c : Contents) → IsShort text → written_at text ≡ Ok c → Writes text c
 unfolding written_at
 written_ok text c fits h =
     let a = bind_ok (ok_or (unsealed_at text) NotCheckpoint) first_step c h in
@@ -196,7 +196,7 @@ written_ok text c fits h =
 some_none : {A : Type 0} (x : A) (o : Option A) → o ≡ Some x → o ≡ None → ⊥
 some_none x o h k = let clash = sym h ∙ k in cc clash
 
-pub written_err : (text : List ℕ) (e : CheckpointError) → Fits text → written_at text ≡ Err e → IsCheckpointRefusal text e
+pub written_err : (text : List ℕ) (e : CheckpointError) → IsShort text → written_at text ≡ Err e → IsCheckpointRefusal text e
 unfolding written_at
 written_err text e fits h =
     elim (bind_err (ok_or (unsealed_at text) NotCheckpoint) first_step e h) [

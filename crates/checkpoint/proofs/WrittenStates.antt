@@ -12,9 +12,9 @@ use Rattle.problem_toml.specs.Reading.{reading, reading_of_any_length}
 use Rattle.problem_toml.specs.declared.error.ProblemError.{ProblemError}
 use Rattle.problem_toml.specs.declared.error.ProblemError.TheVariants as problem_errors
 use Rattle.checkpoint.specs.Readers.{problem_of, counts_fit, residues_fit, state_of}
-use Rattle.checkpoint.specs.Refusals.{Fits, IsRow, IsKnownVersion, AreContents, Writes}
+use Rattle.checkpoint.specs.Refusals.{IsShort, IsRow, IsKnownVersion, AreContents, Writes}
 use Rattle.checkpoint.specs.States.{StateView, IsState}
-use Rattle.checkpoint.specs.Texts.{Contents, number_line, source_text, residue_text, residue_line, body_of, seal, rows_of, contents_in, text_in, IsTextOf}
+use Rattle.checkpoint.specs.Texts.{Contents, number_line, source_text, residue_text, residues_line, body_of, seal, rows_of, contents_in, text_in, IsTextOf}
 use Rattle.checkpoint.proofs.Fits.{counts_fit_from, residues_fit_from}
 use Rattle.checkpoint.proofs.Seals.{length-seal}
 use Rattle.checkpoint.proofs.StateLaws.{at_state}
@@ -132,15 +132,15 @@ residues_short (r ∷ row) h =
     let d = length-decimal-le 20 r (omega arith) (omega arith) h.0 in
     omega (arith, d, length-append (residue_text r) (flat_map residue_text row), length-append (codes " ") (decimal r), residues_short row h.1)
 
-row_short : (m : ℕ) (row : List ℕ) → m ≤ 8 → length row ≡ m → IsRow row → length (residue_line row) ≤ 177
+row_short : (m : ℕ) (row : List ℕ) → m ≤ 8 → length row ≡ m → IsRow row → length (residues_line row) ≤ 177
 row_short m row few count is =
     omega (arith, count, residues_short row is.numbers, length-append (codes "residues" ++ flat_map residue_text row) (codes "\n"), length-append (codes "residues") (flat_map residue_text row))
 
 rows_short : (m : ℕ) (rows : List (List ℕ)) → m ≤ 8 → AllByRecursion IsRow rows
-    → AllByRecursion (λ row. length row ≡ m) rows → length (flat_map residue_line rows) ≤ length rows * 177
+    → AllByRecursion (λ row. length row ≡ m) rows → length (flat_map residues_line rows) ≤ length rows * 177
 rows_short m [] few are each = omega arith
 rows_short m (row ∷ rows) few are each =
-    omega (arith, length-append (residue_line row) (flat_map residue_line rows), row_short m row few each.0 are.0, rows_short m rows few are.1 each.1)
+    omega (arith, length-append (residues_line row) (flat_map residues_line rows), row_short m row few each.0 are.0, rows_short m rows few are.1 each.1)
 
 sum_of_five : (a s n f k : List ℕ)
     → length (a ++ s ++ n ++ f ++ k) ≡ length a + length s + length n + length f + length k
@@ -153,7 +153,7 @@ source_line_short source short =
     omega (arith, length-append (front ++ source) (codes "\n"), length-append front source, line_short (codes "problem ") (length source) (omega (arith, short)))
 
 module _ (v : ℕ) (s : StateView) (is : IsState s) (known : IsKnownVersion v) (one : v ≡ 1 → length s.problem.integrals ≡ 1) where
-  text_short : Fits (text_in v s)
+  text_short : IsShort (text_in v s)
   text_short =
       let c = contents_in v s in
       let m = length s.problem.moduli in
@@ -162,7 +162,7 @@ module _ (v : ℕ) (s : StateView) (is : IsState s) (known : IsKnownVersion v) (
       let a = number_line (codes "locus-checkpoint ") v in
       let t = source_text s.source in
       let x = number_line (codes "next ") s.next in
-      let f = flat_map residue_line (rows_of m n s.residues) in
+      let f = flat_map residues_line (rows_of m n s.residues) in
       let k = seal (sha256 (body_of c)) in
       let version : v < 2 ^ 64 = known_small known in
       let rows =
@@ -185,7 +185,7 @@ module _ (v : ℕ) (s : StateView) (is : IsState s) (known : IsKnownVersion v) (
       known_small (inr two) = omega arith
 
   in_version : (text : List ℕ) → text ≡ text_in v s → Writes text (contents_in v s)
-  in_version text h = record { fits = subst Fits (sym h) text_short; contents = contents_are v s is known one; whole = h }
+  in_version text h = record { fits = subst IsShort (sym h) text_short; contents = contents_are v s is known one; whole = h }
 
 -- the contents of a text of a state
 pub record WritesState (text : List ℕ) (s : StateView) : Type 0 where

@@ -16,8 +16,8 @@ use Rattle.checkpoint.specs.declared.error.CheckpointError.TheVariants.{NoMemory
 -- ---- the form of a text
 
 -- a text of at most 1,052,672 bytes
-abbrev pub Fits : List ℕ → Type 0
-Fits text = length text ≤ 1052672
+abbrev pub IsShort : List ℕ → Type 0
+IsShort text = length text ≤ 1052672
 
 -- a digest: 32 bytes
 pub record IsDigest (digest : List ℕ) : Type 0 where
@@ -32,7 +32,7 @@ pub record Parts : Type 0 where
   pub version : ℕ
   pub rest : List ℕ
 
-pub record HasParts (text : List ℕ) (p : Parts) : Type 0 where
+pub record SplitsInto (text : List ℕ) (p : Parts) : Type 0 where
   pub whole : text ≡ p.body ++ seal p.kept
   pub digest : IsDigest p.kept
   pub first_line : p.body ≡ number_line (codes "locus-checkpoint ") p.version ++ p.rest
@@ -57,7 +57,7 @@ pub record AreContents (c : Contents) : Type 0 where
 
 -- the text writes these contents, with their digest
 pub record Writes (text : List ℕ) (c : Contents) : Type 0 where
-  pub fits : Fits text
+  pub fits : IsShort text
   pub contents : AreContents c
   pub whole : text ≡ text_of c
 
@@ -79,7 +79,7 @@ pub record HasRows (p : ProblemView) (text : List ℕ) (c : Contents) : Type 0 w
   pub rows : length c.rows ≡ length p.integrals
 
 -- there is a residue for each modulus in each row as well
-pub record HasResidues (p : ProblemView) (text : List ℕ) (c : Contents) : Type 0 where
+pub record ReachesResidues (p : ProblemView) (text : List ℕ) (c : Contents) : Type 0 where
   pub written : HasRows p text c
   pub residues : AllByRecursion (λ row. length row ≡ length p.moduli) c.rows
 
@@ -103,12 +103,12 @@ pub record IsFirstRefused (moduli residues : List ℕ) (place : ℕ) : Type 0 wh
 abbrev pub IsCheckpointRefusal : List ℕ → CheckpointError → Type 0
 IsCheckpointRefusal text NoMemory = ⊥
 IsCheckpointRefusal text TooLong = 1052672 < length text
-IsCheckpointRefusal text NotCheckpoint = Fits text × ((p : Parts) → ¬ (HasParts text p))
-IsCheckpointRefusal text (Damaged kept computed) = Fits text × (p : Parts) × HasParts text p
+IsCheckpointRefusal text NotCheckpoint = IsShort text × ((p : Parts) → ¬ (SplitsInto text p))
+IsCheckpointRefusal text (Damaged kept computed) = IsShort text × (p : Parts) × SplitsInto text p
     × (kept ≡ p.kept) × (computed ≡ sha256 p.body) × (kept ≢ computed)
-IsCheckpointRefusal text (BadVersion version) = Fits text × (p : Parts) × HasParts text p × (p.kept ≡ sha256 p.body)
+IsCheckpointRefusal text (BadVersion version) = IsShort text × (p : Parts) × SplitsInto text p × (p.kept ≡ sha256 p.body)
     × (version ≡ p.version) × ¬ (IsKnownVersion version)
-IsCheckpointRefusal text BadBody = Fits text × (p : Parts) × HasParts text p × (p.kept ≡ sha256 p.body)
+IsCheckpointRefusal text BadBody = IsShort text × (p : Parts) × SplitsInto text p × (p.kept ≡ sha256 p.body)
     × IsKnownVersion p.version × ((c : Contents) → AreContents c → p.body ≢ body_of c)
 IsCheckpointRefusal text (ProblemRefused why) = (c : Contents) × Writes text c × (reading c.source ≡ Err why)
 IsCheckpointRefusal text (NextTooLarge next count) = (c : Contents) × (p : ProblemView) × WritesFor p text c
@@ -117,24 +117,24 @@ IsCheckpointRefusal text (LineCount found wanted) = (c : Contents) × (p : Probl
     × (found ≡ length c.rows) × (wanted ≡ length p.integrals) × (found ≢ wanted)
 IsCheckpointRefusal text (ResidueCount found wanted) = (c : Contents) × (p : ProblemView) × HasRows p text c
     × (wanted ≡ length p.moduli) × IsFirstCount c.rows wanted found
-IsCheckpointRefusal text (ResidueRefused place) = (c : Contents) × (p : ProblemView) × HasResidues p text c
+IsCheckpointRefusal text (ResidueRefused place) = (c : Contents) × (p : ProblemView) × ReachesResidues p text c
     × IsFirstRefused p.moduli (concat c.rows) place
 
 -- ---- what is printed
 
 -- the number of a refusal; want of memory is none
-abbrev pub number_of : CheckpointError → Option ℕ
-number_of NoMemory = None
-number_of TooLong = Some 1
-number_of NotCheckpoint = Some 2
-number_of (Damaged kept computed) = Some 3
-number_of (BadVersion version) = Some 4
-number_of BadBody = Some 5
-number_of (ProblemRefused why) = Some 6
-number_of (NextTooLarge next count) = Some 7
-number_of (LineCount found wanted) = Some 10
-number_of (ResidueCount found wanted) = Some 8
-number_of (ResidueRefused place) = Some 9
+abbrev pub refusal_number : CheckpointError → Option ℕ
+refusal_number NoMemory = None
+refusal_number TooLong = Some 1
+refusal_number NotCheckpoint = Some 2
+refusal_number (Damaged kept computed) = Some 3
+refusal_number (BadVersion version) = Some 4
+refusal_number BadBody = Some 5
+refusal_number (ProblemRefused why) = Some 6
+refusal_number (NextTooLarge next count) = Some 7
+refusal_number (LineCount found wanted) = Some 10
+refusal_number (ResidueCount found wanted) = Some 8
+refusal_number (ResidueRefused place) = Some 9
 
 -- the number of a refusal, its name and its details, joined by single spaces
 abbrev pub refusal_of : CheckpointError → List ℕ

@@ -20,8 +20,8 @@ abbrev pub residue_text : ℕ → List ℕ
 residue_text r = codes " " ++ decimal r
 
 -- the residues of a row, each after one space
-abbrev pub residue_line : List ℕ → List ℕ
-residue_line row = codes "residues" ++ flat_map residue_text row ++ codes "\n"
+abbrev pub residues_line : List ℕ → List ℕ
+residues_line row = codes "residues" ++ flat_map residue_text row ++ codes "\n"
 
 -- a source with its length before it; a line feed of its own follows it
 abbrev pub source_text : List ℕ → List ℕ
@@ -30,7 +30,7 @@ source_text source = number_line (codes "problem ") (length source) ++ source ++
 -- all but the last line
 abbrev pub body_of : Contents → List ℕ
 body_of c = number_line (codes "locus-checkpoint ") c.version ++ source_text c.source
-    ++ number_line (codes "next ") c.next ++ flat_map residue_line c.rows
+    ++ number_line (codes "next ") c.next ++ flat_map residues_line c.rows
 
 -- the last line, with the digest as 64 lower case hexadecimal digits
 abbrev pub seal : List ℕ → List ℕ

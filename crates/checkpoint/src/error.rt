@@ -35,11 +35,11 @@ pub enum CheckpointError {
 }
 
 impl CheckpointError {
-    ghost use Rattle.checkpoint.specs.Refusals.{number_of};
+    ghost use Rattle.checkpoint.specs.Refusals.{refusal_number};
 
     /// The number of the refusal, from 1 to 10. Want of memory is none and has no number.
     pub fn number(&self) -> Option<u16>
-        ensures { result ≡ number_of self.now }
+        ensures { result ≡ refusal_number self.now }
     {
         match self {
             CheckpointError::NoMemory => None,

@@ -5,7 +5,7 @@ ghost use Rattle.std.specs.List.{flat_map};
 ghost use Rattle.checkpoint.specs.Bodies.{numbers_of};
 ghost use Rattle.checkpoint.specs.Readers.{starts_with_space, residue_at, residues_at, row_at, rows_at};
 ghost use Rattle.checkpoint.specs.Steps.{Gives, GivesSurely};
-ghost use Rattle.checkpoint.specs.Texts.{residue_text, residue_line, rows_of};
+ghost use Rattle.checkpoint.specs.Texts.{residue_text, residues_line, rows_of};
 
 use crate::decimal::{append_decimal, decimal};
 use crate::error::CheckpointError;
@@ -80,7 +80,7 @@ pub(crate) fn rows(alloc: Global, text: &[u8]) -> Result<Vec<Vec<u64>>, Checkpoi
 
 /// Appends a line of residues.
 fn append_row(text: &mut Vec<u8>, row: &[u64]) -> Result<(), NoMemory>
-    ensures { OnOk result (text.new.items ≡ text.old.items ++ residue_line row.now) }
+    ensures { OnOk result (text.new.items ≡ text.old.items ++ residues_line row.now) }
 {
     text.extend_from_slice(b"residues")?;
     append_residues(text, row)?;
@@ -110,7 +110,7 @@ pub(crate) fn append_rows(
 ) -> Result<(), NoMemory>
     requires { length residues.now ≡ count * moduli }
     ensures { OnOk result (text.new.items
-        ≡ text.old.items ++ flat_map residue_line (rows_of moduli count residues.now)) }
+        ≡ text.old.items ++ flat_map residues_line (rows_of moduli count residues.now)) }
 {
     let mut rest = residues;
     for _ in 0..count {

@@ -5,7 +5,7 @@ use lib.ListN.{get_elem?}
 use Rattle.factor_table.specs.declared.key.Key.{Key}
 use Rattle.factor_table.specs.declared.parameters.Parameters.{Parameters}
 use Rattle.factor_table.specs.declared.table.View.{View}
-use Rattle.factor_table.specs.KeyPlaces.{IsWithin, place_of}
+use Rattle.factor_table.specs.KeyPlaces.{IsKeyWithin, place_of}
 use Rattle.factor_table.specs.Factors.{sizes_of, modulus_at, fraction_of, HasFraction, IsKeyOf, IsWordOf}
 use Rattle.factor_table.specs.Rule.{AreFactors, IsFactorAt}
 use Rattle.factor_table.proofs.OneToOne.{place_from, one_to_one}
@@ -24,7 +24,7 @@ known_word p words views id v key m h at is_key is_modulus there =
 
 -- the word of a key that has no fraction, as that of a class without parts, stays 0
 pub stays_zero : (p : Parameters) (words : List ℕ) (views : List View) (key : Key) (m : ℕ) → AreFactors p words views
-    → IsWithin (sizes_of p) key → ¬ (HasFraction p key)
+    → IsKeyWithin (sizes_of p) key → ¬ (HasFraction p key)
     → get_or words (place_of (sizes_of p) key m) 0 ≡ 0
 stays_zero p words views key m h within none =
     let place : ℕ = place_of (sizes_of p) key m in

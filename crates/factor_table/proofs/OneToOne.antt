@@ -3,7 +3,7 @@ use Rattle.std.proofs.Common.{◌≡◌, ℕ, zero, suc, ◌+◌, ◌-◌, ◌*�
 use Rattle.factor_table.specs.declared.key.Key.{Key}
 use Rattle.factor_table.specs.declared.key.Key.TheVariants.{Edge, Flag, Tangent, Pair, ClassEdge, ClassVertex, Tip}
 use Rattle.factor_table.specs.declared.layout.Sizes.{Sizes}
-use Rattle.factor_table.specs.KeyPlaces.{IsEnd, IsWithin, ends, flags, end_number, flag_number, words_of_modulus, key_number, first_factor, words_of, place_of}
+use Rattle.factor_table.specs.KeyPlaces.{IsEnd, IsKeyWithin, ends, flags, end_number, flag_number, words_of_modulus, key_number, first_factor, words_of, place_of}
 use Rattle.factor_table.proofs.Digits.{digits, digit_below}
 use Rattle.factor_table.proofs.Strides.{end_below, flag_below}
 
@@ -69,7 +69,7 @@ in_kind s (Pair c c1 a1 c2 a2) = omega arith
 in_kind s (ClassEdge class i j a) = omega arith
 in_kind s (ClassVertex class c n) = omega arith
 
-kind_below : (s : Sizes) (key : Key) → IsWithin s key → number_in_kind s key < part_size (kinds s) (kind_of key)
+kind_below : (s : Sizes) (key : Key) → IsKeyWithin s key → number_in_kind s key < part_size (kinds s) (kind_of key)
 kind_below s (Edge i j a) w = flag_below s i j a w.0 w.1
 kind_below s (Flag c u a) w = flag_below s c u a w.0 w.1
 kind_below s (Tip c u a) w = flag_below s c u a w.0 w.1
@@ -98,7 +98,7 @@ same_flag s c u a d v b m n e =
     let r = same_end s u a v b m n t.1 in (t.0, r.0, r.1)
 
 -- keys of one kind and one number are one key
-same_in_kind : (s : Sizes) (k l : Key) → IsWithin s k → IsWithin s l → kind_of k ≡ kind_of l
+same_in_kind : (s : Sizes) (k l : Key) → IsKeyWithin s k → IsKeyWithin s l → kind_of k ≡ kind_of l
     → number_in_kind s k ≡ number_in_kind s l → k ≡ l
 same_in_kind s (Edge i j a) (Edge p q b) w v kind e =
     let t = same_flag s i j a p q b w.1 v.1 e in let x = t.0 in let y = t.1 in let z = t.2 in cc
@@ -130,7 +130,7 @@ same_in_kind s (Pair c c1 a1 c2 a2) l w v kind e = absurd (omega arith)
 same_in_kind s (ClassEdge class i j a) l w v kind e = absurd (omega arith)
 same_in_kind s (ClassVertex class c m) l w v kind e = absurd (omega arith)
 
-same_key : (s : Sizes) (k l : Key) → IsWithin s k → IsWithin s l → key_number s k ≡ key_number s l → k ≡ l
+same_key : (s : Sizes) (k l : Key) → IsKeyWithin s k → IsKeyWithin s l → key_number s k ≡ key_number s l → k ≡ l
 same_key s k l w v e =
     let t =
     part_told (kinds s) (kind_of k) (number_in_kind s k) (kind_of l) (number_in_kind s l) (kind_below s k w)
@@ -145,7 +145,7 @@ part_below (n ∷ ns) zero x h = omega arith
 part_below (n ∷ ns) (suc k) x h = let t = part_below ns k x h in omega arith
 
 -- the number of a key is below the number of words for one modulus
-key_below : (s : Sizes) (key : Key) → IsWithin s key → key_number s key < words_of_modulus s
+key_below : (s : Sizes) (key : Key) → IsKeyWithin s key → key_number s key < words_of_modulus s
 key_below s key w =
     let t = part_below (kinds s) (kind_of key) (number_in_kind s key) (kind_below s key w) in
     let e = in_kind s key in omega arith
@@ -154,13 +154,13 @@ pub place_from : (s : Sizes) (key : Key) (m : ℕ) → first_factor s ≤ place_
 unfolding place_of
 place_from s key m = omega arith
 
-pub place_below : (s : Sizes) (key : Key) (m : ℕ) → IsWithin s key → m < s.moduli → place_of s key m < words_of s
+pub place_below : (s : Sizes) (key : Key) (m : ℕ) → IsKeyWithin s key → m < s.moduli → place_of s key m < words_of s
 unfolding place_of words_of
 place_below s key m w lt =
     let d = digit_below m (key_number s key) s.moduli (words_of_modulus s) lt (key_below s key w) in omega arith
 
 -- no two keys and moduli have one place
-pub one_to_one : (s : Sizes) (k l : Key) (m n : ℕ) → IsWithin s k → IsWithin s l → place_of s k m ≡ place_of s l n
+pub one_to_one : (s : Sizes) (k l : Key) (m n : ℕ) → IsKeyWithin s k → IsKeyWithin s l → place_of s k m ≡ place_of s l n
     → (k ≡ l) × (m ≡ n)
 unfolding place_of
 one_to_one s k l m n w v e =

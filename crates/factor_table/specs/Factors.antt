@@ -14,7 +14,7 @@ use Rattle.factor_table.specs.declared.key.Key.{Key}
 use Rattle.factor_table.specs.declared.key.Key.TheVariants.{Edge, Flag, Tangent, Pair, ClassEdge, ClassVertex, Tip}
 use Rattle.factor_table.specs.declared.parameters.Parameters.{Parameters}
 use Rattle.factor_table.specs.declared.layout.Sizes.{Sizes}
-use Rattle.factor_table.specs.KeyPlaces.{IsWithin}
+use Rattle.factor_table.specs.KeyPlaces.{IsKeyWithin}
 
 abbrev pub parameters : List ℤ → ℕ → List ℕ → List Class → Parameters
 parameters setup degree moduli classes = record { setup = setup; degree = degree; moduli = moduli; classes = classes }
@@ -52,7 +52,7 @@ HasFraction p (Tip c u a) = u ≢ c
 
 -- a key of the table
 pub record IsKeyOf (p : Parameters) (key : Key) : Type 0 where
-  pub within : IsWithin (sizes_of p) key
+  pub within : IsKeyWithin (sizes_of p) key
   pub has_fraction : HasFraction p key
 
 -- the fraction of a tip: the difference of the weights of the neighbour and the vertex, over the degree

@@ -20,14 +20,14 @@ pub record IsEnd (s : Sizes) (u a : ℕ) : Type 0 where
   pub degree_within : a ≤ s.degree
 
 -- the colours, the degrees and the class of a key are among those of the table
-abbrev pub IsWithin : Sizes → Key → Type 0
-IsWithin s (Edge i j a) = (i < s.colours) × IsEnd s j a
-IsWithin s (Flag c u a) = (c < s.colours) × IsEnd s u a
-IsWithin s (Tangent c) = c < s.colours
-IsWithin s (Pair c c1 a1 c2 a2) = (c < s.colours) × IsEnd s c1 a1 × IsEnd s c2 a2
-IsWithin s (ClassEdge class i j a) = (class < s.classes) × (i < s.colours) × IsEnd s j a
-IsWithin s (ClassVertex class c n) = (class < s.classes) × IsEnd s c n
-IsWithin s (Tip c u a) = (c < s.colours) × IsEnd s u a
+abbrev pub IsKeyWithin : Sizes → Key → Type 0
+IsKeyWithin s (Edge i j a) = (i < s.colours) × IsEnd s j a
+IsKeyWithin s (Flag c u a) = (c < s.colours) × IsEnd s u a
+IsKeyWithin s (Tangent c) = c < s.colours
+IsKeyWithin s (Pair c c1 a1 c2 a2) = (c < s.colours) × IsEnd s c1 a1 × IsEnd s c2 a2
+IsKeyWithin s (ClassEdge class i j a) = (class < s.classes) × (i < s.colours) × IsEnd s j a
+IsKeyWithin s (ClassVertex class c n) = (class < s.classes) × IsEnd s c n
+IsKeyWithin s (Tip c u a) = (c < s.colours) × IsEnd s u a
 
 -- how many ends there are, and how many flags, a colour and an end each
 abbrev pub ends : Sizes → ℕ

@@ -3,7 +3,7 @@
 ghost use Rattle.std.specs.Prelude.{◌≡◌, ℕ, ◌+◌, ◌-◌, ◌*◌, ◌<◌, ◌≤◌, ◌^◌};
 ghost use Rattle.factor_table.specs.declared.key.Key.{Key};
 ghost use Rattle.factor_table.specs.declared.layout.Sizes.{Sizes};
-ghost use Rattle.factor_table.specs.KeyPlaces.{AreWithinLimits, AreStrides, IsEnd, IsWithin, ends, flags, end_number, flag_number, first_factor, words_of_modulus, words_of, place_of};
+ghost use Rattle.factor_table.specs.KeyPlaces.{AreWithinLimits, AreStrides, IsEnd, IsKeyWithin, ends, flags, end_number, flag_number, first_factor, words_of_modulus, words_of, place_of};
 
 use crate::key::Key;
 
@@ -91,11 +91,11 @@ impl Layout {
 
     /// The place of the word of a key for the modulus at an index. No other key and modulus of the table have it.
     pub fn place(&self, key: Key, modulus: u8) -> usize
-        requires key { IsWithin self.now.sizes key }
+        requires key { IsKeyWithin self.now.sizes key }
         requires modulus { modulus < self.now.sizes.moduli }
         ensures value { result ≡ place_of self.now.sizes key modulus }
         ensures within { (first_factor self.now.sizes ≤ result) × (result < words_of self.now.sizes) }
-        ensures one_to_one { (other : Key) (n : ℕ) → IsWithin self.now.sizes other → n < self.now.sizes.moduli
+        ensures one_to_one { (other : Key) (n : ℕ) → IsKeyWithin self.now.sizes other → n < self.now.sizes.moduli
             → place_of self.now.sizes other n ≡ result → (other ≡ key) × (n ≡ modulus) }
     {
         self.place_by_kind(key, modulus)
@@ -103,7 +103,7 @@ impl Layout {
 
     // The same place, kind by kind.
     fn place_by_kind(&self, key: Key, modulus: u8) -> usize
-        requires key { IsWithin self.now.sizes key }
+        requires key { IsKeyWithin self.now.sizes key }
         requires modulus { modulus < self.now.sizes.moduli }
         ensures { result ≡ place_of self.now.sizes key modulus }
     {
@@ -122,7 +122,7 @@ impl Layout {
     #[inline]
     #[tactic(auto, unfolding(crate::specs::KeyPlaces::place_of))]
     pub fn edge(&self, i: u8, j: u8, a: u8, modulus: u8) -> usize
-        requires key { IsWithin self.now.sizes (Key.Edge i j a) }
+        requires key { IsKeyWithin self.now.sizes (Key.Edge i j a) }
         requires modulus { modulus < self.now.sizes.moduli }
         ensures { result ≡ place_of self.now.sizes (Key.Edge i j a) modulus }
     {
@@ -134,7 +134,7 @@ impl Layout {
     #[inline]
     #[tactic(auto, unfolding(crate::specs::KeyPlaces::place_of))]
     pub fn flag(&self, c: u8, u: u8, a: u8, modulus: u8) -> usize
-        requires key { IsWithin self.now.sizes (Key.Flag c u a) }
+        requires key { IsKeyWithin self.now.sizes (Key.Flag c u a) }
         requires modulus { modulus < self.now.sizes.moduli }
         ensures { result ≡ place_of self.now.sizes (Key.Flag c u a) modulus }
     {
@@ -146,7 +146,7 @@ impl Layout {
     #[inline]
     #[tactic(auto, unfolding(crate::specs::KeyPlaces::place_of))]
     pub fn tip(&self, c: u8, u: u8, a: u8, modulus: u8) -> usize
-        requires key { IsWithin self.now.sizes (Key.Tip c u a) }
+        requires key { IsKeyWithin self.now.sizes (Key.Tip c u a) }
         requires modulus { modulus < self.now.sizes.moduli }
         ensures { result ≡ place_of self.now.sizes (Key.Tip c u a) modulus }
     {
@@ -158,7 +158,7 @@ impl Layout {
     #[inline]
     #[tactic(auto, unfolding(crate::specs::KeyPlaces::place_of))]
     pub fn tangent(&self, c: u8, modulus: u8) -> usize
-        requires key { IsWithin self.now.sizes (Key.Tangent c) }
+        requires key { IsKeyWithin self.now.sizes (Key.Tangent c) }
         requires modulus { modulus < self.now.sizes.moduli }
         ensures { result ≡ place_of self.now.sizes (Key.Tangent c) modulus }
     {
@@ -169,7 +169,7 @@ impl Layout {
     #[inline]
     #[tactic(auto, unfolding(crate::specs::KeyPlaces::place_of))]
     pub fn pair(&self, c: u8, c1: u8, a1: u8, c2: u8, a2: u8, modulus: u8) -> usize
-        requires key { IsWithin self.now.sizes (Key.Pair c c1 a1 c2 a2) }
+        requires key { IsKeyWithin self.now.sizes (Key.Pair c c1 a1 c2 a2) }
         requires modulus { modulus < self.now.sizes.moduli }
         ensures { result ≡ place_of self.now.sizes (Key.Pair c c1 a1 c2 a2) modulus }
     {
@@ -182,7 +182,7 @@ impl Layout {
     #[inline]
     #[tactic(auto, unfolding(crate::specs::KeyPlaces::place_of))]
     pub fn class_edge(&self, class: u16, i: u8, j: u8, a: u8, modulus: u8) -> usize
-        requires key { IsWithin self.now.sizes (Key.ClassEdge class i j a) }
+        requires key { IsKeyWithin self.now.sizes (Key.ClassEdge class i j a) }
         requires modulus { modulus < self.now.sizes.moduli }
         ensures { result ≡ place_of self.now.sizes (Key.ClassEdge class i j a) modulus }
     {
@@ -195,7 +195,7 @@ impl Layout {
     #[inline]
     #[tactic(auto, unfolding(crate::specs::KeyPlaces::place_of))]
     pub fn class_vertex(&self, class: u16, c: u8, s: u8, modulus: u8) -> usize
-        requires key { IsWithin self.now.sizes (Key.ClassVertex class c s) }
+        requires key { IsKeyWithin self.now.sizes (Key.ClassVertex class c s) }
         requires modulus { modulus < self.now.sizes.moduli }
         ensures { result ≡ place_of self.now.sizes (Key.ClassVertex class c s) modulus }
     {

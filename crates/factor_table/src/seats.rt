@@ -3,7 +3,7 @@
 ghost use Rattle.std.specs.Prelude.{◌≡◌, ℕ, ◌<◌, ◌≤◌, ◌++◌, [], ◌∷◌, length};
 ghost use Rattle.factor_table.specs.declared.key.Key.{Key};
 ghost use Rattle.factor_table.specs.declared.table.Move.{Move};
-ghost use Rattle.factor_table.specs.KeyPlaces.{IsWithin, first_factor};
+ghost use Rattle.factor_table.specs.KeyPlaces.{IsKeyWithin, first_factor};
 ghost use Rattle.factor_table.specs.Factors.{sizes_of};
 ghost use Rattle.factor_table.specs.Seats.{parameters_of, word_count, place_in, IsSeatOf, known_of, moves_of};
 
@@ -29,11 +29,11 @@ impl FactorTable {
 
     /// The place of the word of a key for the modulus at an index. No other key and index of the table have it.
     pub fn place(&self, key: Key, modulus: u8) -> usize
-        requires key { IsWithin (sizes_of (parameters_of self.now)) key }
+        requires key { IsKeyWithin (sizes_of (parameters_of self.now)) key }
         requires modulus { modulus < length (parameters_of self.now).moduli }
         ensures value { result ≡ place_in self.now key modulus }
         ensures within { (first_factor (sizes_of (parameters_of self.now)) ≤ result) × (result < word_count self.now) }
-        ensures one_to_one { (other : Key) (index : ℕ) → IsWithin (sizes_of (parameters_of self.now)) other
+        ensures one_to_one { (other : Key) (index : ℕ) → IsKeyWithin (sizes_of (parameters_of self.now)) other
             → index < length (parameters_of self.now).moduli
             → place_in self.now other index ≡ result → (other ≡ key) × (index ≡ modulus) }
     {

@@ -12,7 +12,7 @@ use Rattle.rounds.specs.declared.progress.Outcome.TheVariants.{Done, Paused, NoI
 use Rattle.locus_io.specs.Causes.{Stayed}
 use Rattle.locus_core.specs.Outside.{Change, StopperState}
 use Rattle.locus_core.specs.Begins.{fresh_sum, of_number}
-use Rattle.locus_core.specs.Steps.{Continues, IsEnd, IsReportOf}
+use Rattle.locus_core.specs.Steps.{Continues, IsNoPause, IsReportOf}
 use Rattle.locus_core.proofs.Reported.{stayed, headed}
 
 -- no sums yet
@@ -45,7 +45,7 @@ fresh p number is =
 -- a sum from the first tree on, under the greatest budget and without a name for stops, does not pause
 pub never_pauses : (p : ProblemView) (residues : List ℕ) (outcome : Outcome) (rounds : ℕ) → KeepsRules p
     → IsOutcome (record { problem = p; next = 0; residues = residues }) (2 ^ 40) rounds outcome
-    → ¬ IsEarly (record { problem = p; next = 0; residues = residues }) (2 ^ 40) outcome → IsEnd outcome
+    → ¬ IsEarly (record { problem = p; next = 0; residues = residues }) (2 ^ 40) outcome → IsNoPause outcome
 never_pauses p residues (Done final) rounds rules is late = tt
 never_pauses p residues (NoInverse number modulus) rounds rules is late = tt
 never_pauses p residues (Paused next final) rounds rules is late =

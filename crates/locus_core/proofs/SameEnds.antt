@@ -50,17 +50,17 @@ residues_once : (p : ProblemView) (xs ys : List ℕ) → AreResidues p xs → Ar
 residues_once p xs ys a s b t =
     ext_get_or 0 xs ys (a.one_each ∙ sym b.one_each)
     (λ place l.
-      let within : place < places_of p = subst (λ z. place < z) a.one_each l in
-      residue_once (modulus_at p.moduli place) (kontsevich_sum p.weights p.shape (integral_at p.moduli p.integrals place))
-      (get_or xs place 0) (get_or ys place 0) (s.each place within) (t.each place within))
+    let within : place < places_of p = subst (λ z. place < z) a.one_each l in
+    residue_once (modulus_at p.moduli place) (kontsevich_sum p.weights p.shape (integral_at p.moduli p.integrals place))
+    (get_or xs place 0) (get_or ys place 0) (s.each place within) (t.each place within))
 
 fractions_once : (p : ProblemView) (residues : List ℕ) (fs gs : List (Option recovered.Fraction)) → AreFractions p residues fs → AreFractions p residues gs
     → fs ≡ gs
 fractions_once p residues fs gs a b =
     ext_get_or None fs gs (a.as_many ∙ sym b.as_many)
     (λ i l.
-      let within : i < length p.integrals = subst (λ z. i < z) a.as_many l in
-      only (get_or fs i None) (get_or gs i None) (a.each i within) (b.each i within))
+    let within : i < length p.integrals = subst (λ z. i < z) a.as_many l in
+    only (get_or fs i None) (get_or gs i None) (a.each i within) (b.each i within))
   where
     only : {ms xs : List ℕ} {most_top most_bottom : ℕ} (f g : Option recovered.Fraction) → IsOnlyFraction ms xs most_top most_bottom f
         → IsOnlyFraction ms xs most_top most_bottom g → f ≡ g
@@ -98,7 +98,7 @@ same_end p r other n m text (inl a) (inl b) printed =
     let fs = fractions_once p a.residues a.fractions b.fractions a.agree (subst (λ x. AreFractions p x b.fractions) (sym xs) b.agree) in (
       a.status ∙ ap done_status fs ∙ sym b.status,
       subst (Takes r.out)
-      (ap₂ (done_text p) xs fs ∙ same_text other text (done_text p b.residues b.fractions) printed b.out) a.out,
+          (ap₂ (done_text p) xs fs ∙ same_text other text (done_text p b.residues b.fractions) printed b.out) a.out,
     )
 same_end p r other n m text (inr (four, a)) (inr (also, b)) printed =
     let numbers = least_once (is_bad_of p) (count_of p) a.number b.number a.is.least b.is.least in
@@ -107,7 +107,7 @@ same_end p r other n m text (inr (four, a)) (inr (also, b)) printed =
     (subst (λ k. IsFirstBad (is_bad_modulo p k) p.moduli b.index) (sym numbers) b.is.first) in (
       four ∙ sym also,
       subst (Takes r.out)
-      (ap₂ (no_inverse_text p) numbers indices ∙ same_text other text (no_inverse_text p b.number b.index) printed b.out) a.out,
+          (ap₂ (no_inverse_text p) numbers indices ∙ same_text other text (no_inverse_text p b.number b.index) printed b.out) a.out,
     )
 same_end p r other n m text (inl a) (inr (four, b)) printed = absurd (a.none_bad (some_bad p b.number b.index b.is))
 same_end p r other n m text (inr (four, a)) (inl b) printed = absurd (b.none_bad (some_bad p a.number a.index a.is))

@@ -34,11 +34,11 @@ none_bad_before s rules truth k from below bad =
     let p = s.problem in
     nowhere_bad p.weights p.integrals p.moduli (tree_of p.shape k)
     (λ place within.
-      let m = modulus_at p.moduli place in
-      let terms = integral_at p.moduli p.integrals place in
-      let at = truth.each place within in
-      has_unit m (contribution p.weights terms (tree_of p.shape k))
-      (unit_within m p.weights p.shape terms 0 k s.next (modulus_above p rules place) from below at.unit))
+    let m = modulus_at p.moduli place in
+    let terms = integral_at p.moduli p.integrals place in
+    let at = truth.each place within in
+    has_unit m (contribution p.weights terms (tree_of p.shape k))
+    (unit_within m p.weights p.shape terms 0 k s.next (modulus_above p rules place) from below at.unit))
     (is_bad_at p.weights p.integrals p.moduli p.shape k (tree_of p.shape k) refl ∙ bad)
 
 -- a sum that is begun anew is true, too

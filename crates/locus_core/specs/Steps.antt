@@ -38,10 +38,10 @@ pub record Continues (b : Beginning) (stopper : Change StopperState) (shares : L
   pub answer : IsAnswer b outcome status text
 
 -- the outcome is no pause
-abbrev pub IsEnd : Outcome → Type 0
-IsEnd (Done residues) = Unit {0}
-IsEnd (Paused next residues) = ⊥
-IsEnd (NoInverse number modulus) = Unit {0}
+abbrev pub IsNoPause : Outcome → Type 0
+IsNoPause (Done residues) = Unit {0}
+IsNoPause (Paused next residues) = ⊥
+IsNoPause (NoInverse number modulus) = Unit {0}
 
 -- the status and the text of an outcome that is no pause
 abbrev pub IsReportOf : ProblemView → Outcome → ℕ → List ℕ → Type 0

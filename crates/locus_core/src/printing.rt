@@ -45,8 +45,16 @@ pub(crate) fn refuse<E: Sink>(alloc: Global, err: &mut E, refusal: Refusal) -> A
     match refusal {
         Refusal::ReadFault => end(err, Status::ReadFault, b"read fault\n"),
         Refusal::NoMemory => end(err, Status::NoMemory, b"want of memory\n"),
-        Refusal::Problem(error) => end_with(err, Status::ProblemRefused, problem_line(alloc, &error)),
-        Refusal::Checkpoint(error) => end_with(err, Status::CheckpointRefused, checkpoint_line(alloc, &error)),
+        Refusal::Problem(error) => end_with(
+            err,
+            Status::ProblemRefused,
+            problem_line(alloc, &error),
+        ),
+        Refusal::Checkpoint(error) => end_with(
+            err,
+            Status::CheckpointRefused,
+            checkpoint_line(alloc, &error),
+        ),
     }
 }
 

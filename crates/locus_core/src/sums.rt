@@ -10,7 +10,7 @@ ghost use Rattle.rounds.specs.Outcomes.{IsOfProblem};
 ghost use Rattle.locus_core.specs.Outside.{Unchanged, stopper_change};
 ghost use Rattle.locus_core.specs.Begins.{of_state, of_number, plan_of, Plan};
 ghost use Rattle.locus_core.specs.Comes.{IsAnswer, MayHaveStopped};
-ghost use Rattle.locus_core.specs.Steps.{Continues, IsEnd, IsReportOf};
+ghost use Rattle.locus_core.specs.Steps.{Continues, IsNoPause, IsReportOf};
 
 use crate::work::Printable;
 use checkpoint::State;
@@ -122,7 +122,7 @@ pub(crate) fn soak<R: Threads + Sync, S: Stopper, G: Gate>(
 /// What is printed of an outcome that is no pause.
 fn soak_report(alloc: Global, problem: &Problem, outcome: Outcome) -> Result<Report, NoMemory>
     requires of_problem { IsOfProblem (problem_view problem.now) outcome }
-    requires no_pause { IsEnd outcome }
+    requires no_pause { IsNoPause outcome }
     ensures { IfOk result (λ report. IsReportOf (problem_view problem.now) outcome (code_of report.status) report.text.items) }
 {
     match outcome {

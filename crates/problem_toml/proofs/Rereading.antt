@@ -25,7 +25,7 @@ use Rattle.classes.specs.declared.class.Term.{Term}
 use Rattle.arithmetic.specs.Agreement.{ArePairwiseCoprime}
 use Rattle.problem.specs.Rules.{ProblemView, KeepsRules, IsPower, IsTerm, IsTermOf, IsIntegralOf, dimension_of, powers_degree}
 use Rattle.problem_toml.specs.Classes.{kind_at, power_of, powers_from}
-use Rattle.problem_toml.specs.Header.{WrittenView, written_of, marks_at, lists_fit, bounds_of, header_of}
+use Rattle.problem_toml.specs.Header.{WrittenView, written_of, marks_in, lists_fit, bounds_of, header_of}
 use Rattle.problem_toml.specs.Integrals.{integral_of, integrals_from, integrals_of}
 use Rattle.problem_toml.specs.Keys.{key_of}
 use Rattle.problem_toml.specs.Kinds.{word_of, parameter_key}
@@ -215,7 +215,7 @@ unfolding table_of
 known_again p = refl
 
 written_again : (p : ProblemView) → written_of (table_of p) ≡ Ok (written_as p)
-unfolding written_of marks_at integer_at integers_at table_of
+unfolding written_of marks_in integer_at integers_at table_of
 written_again p =
     rw (integers_again place.Top key.Weights p.weights, integers_again place.Top key.Moduli (map pos p.moduli))
 

@@ -51,15 +51,15 @@ pub record IsHeader (h : Header) : Type 0 where
   pub most_bottom_bound : h.bottom_bound < 2 ^ 62
 
 -- the number of marks, 0 if it is left out
-unfoldable pub marks_at : Members → Result ℤ ProblemError
-marks_at doc = integer_or Top Marks (pos 0) (get_member (key_of Marks) doc)
+unfoldable pub marks_in : Members → Result ℤ ProblemError
+marks_in doc = integer_or Top Marks (pos 0) (get_member (key_of Marks) doc)
 
 -- the numbers at the top, each of its type
 unfoldable pub written_of : Members → Result WrittenView ProblemError
 written_of doc = do
   rank ← integer_at Top Rank doc
   degree ← integer_at Top Degree doc
-  marks ← marks_at doc
+  marks ← marks_in doc
   weights ← integers_at Top Weights doc
   moduli ← integers_at Top Moduli doc
   numerator_bound ← integer_at Top NumeratorBound doc

@@ -10,23 +10,23 @@ use Rattle.problem_toml.specs.declared.place.Place.{Place}
 use Rattle.problem_toml.specs.declared.place.Place.TheVariants.{Top, Integral, Term, Class}
 
 -- the number of a refusal; want of memory is none
-abbrev pub number_of : ProblemError → Option ℕ
-number_of NoMemory = None
-number_of TooLong = Some 1
-number_of NotToml = Some 2
-number_of (MissingKey place name) = Some 3
-number_of (UnknownKey place key) = Some 4
-number_of (WrongType place name) = Some 5
-number_of (BadVersion version) = Some 6
-number_of (OutOfLimits place name) = Some 7
-number_of (WeightCount found wanted) = Some 8
-number_of (ModulusRefused index why) = Some 9
-number_of (NotCoprime first second) = Some 10
-number_of ProductTooLarge = Some 11
-number_of BoundsTooWide = Some 12
-number_of (UnknownKind term class) = Some 13
-number_of (WrongDegree term degree dimension) = Some 14
-number_of TooManyTrees = Some 15
+abbrev pub refusal_number : ProblemError → Option ℕ
+refusal_number NoMemory = None
+refusal_number TooLong = Some 1
+refusal_number NotToml = Some 2
+refusal_number (MissingKey place name) = Some 3
+refusal_number (UnknownKey place key) = Some 4
+refusal_number (WrongType place name) = Some 5
+refusal_number (BadVersion version) = Some 6
+refusal_number (OutOfLimits place name) = Some 7
+refusal_number (WeightCount found wanted) = Some 8
+refusal_number (ModulusRefused index why) = Some 9
+refusal_number (NotCoprime first second) = Some 10
+refusal_number ProductTooLarge = Some 11
+refusal_number BoundsTooWide = Some 12
+refusal_number (UnknownKind term class) = Some 13
+refusal_number (WrongDegree term degree dimension) = Some 14
+refusal_number TooManyTrees = Some 15
 
 -- where a table is in the text; integrals, terms and classes are counted from 0
 abbrev pub place_text : Place → List ℕ

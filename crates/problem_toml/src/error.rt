@@ -76,11 +76,11 @@ pub enum ProblemError {
 }
 
 impl ProblemError {
-    ghost use Rattle.problem_toml.specs.Refusals.{number_of};
+    ghost use Rattle.problem_toml.specs.Refusals.{refusal_number};
 
     /// The number of the refusal, from 1 to 15. Want of memory is none and has no number.
     pub fn number(&self) -> Option<u16>
-        ensures { result ≡ number_of self.now }
+        ensures { result ≡ refusal_number self.now }
     {
         match self {
             ProblemError::NoMemory => None,

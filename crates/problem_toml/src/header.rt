@@ -6,7 +6,7 @@ ghost use Rattle.toml.specs.View.{table_view};
 ghost use Rattle.trees.specs.TreeNumbers.{tree_count};
 ghost use Rattle.residue.specs.Limits.{is_beyond_limit};
 ghost use Rattle.problem.specs.Rules.{dimension_of};
-ghost use Rattle.problem_toml.specs.Header.{written_view, written_of, marks_at, lists_fit, bounds_of, header_of, header_shape, IsHeader};
+ghost use Rattle.problem_toml.specs.Header.{written_view, written_of, marks_in, lists_fit, bounds_of, header_of, header_shape, IsHeader};
 ghost use Rattle.problem_toml.specs.Reading.{shape_fits};
 ghost use Rattle.problem_toml.specs.Steps.{Gives, GivesSurely};
 ghost use Rattle.problem_toml.specs.Tables.{within};
@@ -46,9 +46,9 @@ pub struct Header {
     pub bottom_bound: u64,
 }
 
-#[tactic(auto, unfolding(crate::specs::Header::marks_at))]
+#[tactic(auto, unfolding(crate::specs::Header::marks_in))]
 fn marks(table: &Table) -> Result<i64, ProblemError>
-    ensures { GivesSurely (λ z. z) result (marks_at (table_view table.now)) }
+    ensures { GivesSurely (λ z. z) result (marks_in (table_view table.now)) }
 {
     integer_or(find(table, Name::Marks), Place::Top, Name::Marks, 0)
 }

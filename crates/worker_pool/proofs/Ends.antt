@@ -7,7 +7,7 @@ use Rattle.claim_table.specs.declared.claimer.Record.{Record}
 use Rattle.claim_table.specs.Counts.{least_of, nothing_bad}
 use Rattle.claim_table.specs.Claims.{fresh, all_reported, IsShareOf, IsLegal}
 use Rattle.claim_table.proofs.Lists.{length-map_is, get_or-map, get_or_within, some_item, choose}
-use Rattle.worker_pool.specs.Rounds.{blocks_of, seens_of, worked, AreLoops, IsRound, IsCleanRound, all_clean, IsLeastBad}
+use Rattle.worker_pool.specs.Rounds.{blocks_of, seens_of, worked, AreLoops, IsRound, IsCleanRound, all_clean, IsLeastOfRound}
 use Rattle.worker_pool.proofs.Exact.{exact}
 
 -- a list of the same length, written over all of another
@@ -92,7 +92,7 @@ module _ {S P : Type 0} (g : ℕ → Option ℕ) (stands : P → List (ℕ × �
 
     pub least_bad_is : least ≡ least_of (all_reported (map record_of new))
         → ((b number : ℕ) → b < length owners → g b ≡ Some number → number < nothing_bad)
-        → IsLeastBad g p.blocks least
+        → IsLeastOfRound g p.blocks least
     least_bad_is is below = let n = length-map_is record_of new in
         exact g (map record_of new) owners least is (λ b lt. omega (arith, legal.owned b (omega (arith, legal.blocks))))
         (λ k d lt. let w = did k some_seat (some_item parts some_part) (omega arith) in

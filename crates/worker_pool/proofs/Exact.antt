@@ -11,7 +11,7 @@ use Rattle.claim_table.specs.declared.claimer.Record.{Record}
 use Rattle.claim_table.specs.Counts.{bit, times, least_of, nothing_bad}
 use Rattle.claim_table.specs.Claims.{all_reported, IsShareOf}
 use Rattle.claim_table.proofs.Lists.{times-append, bit_eq, bit_ne, each_of_all}
-use Rattle.worker_pool.specs.Rounds.{at_most, answers, blocks_of, seens_of, IsLeastBad}
+use Rattle.worker_pool.specs.Rounds.{at_most, answers, blocks_of, seens_of, IsLeastOfRound}
 
 -- n is at most each number that stands in the list
 abbrev AtMostEach : ℕ → List ℕ → Type 0
@@ -128,7 +128,7 @@ module _ (g : ℕ → Option ℕ) (rs : List Record) (owners : List ℕ) (least 
       (b.0, owned_below b.0 (length owners) (get_or owners b.0 0) by.0 (omega arith), b.2 ∙ ap (λ n. Some n) (sym is)))
       (least_stands (all_reported rs))
 
-  pub exact : (blocks : ℕ) → length owners ≡ blocks → IsLeastBad g blocks least
+  pub exact : (blocks : ℕ) → length owners ≡ blocks → IsLeastOfRound g blocks least
   exact blocks count = record {
     none_less = λ b number lt e. none_less b number (omega arith) e;
     found = λ less. let f = found less in (f.0, (omega (arith, f.1)), f.2);

@@ -81,7 +81,7 @@ pub record IsCleanRound {P : Type 0} (stands : P → List (ℕ × ℕ) → Type 
       → stands (slice_index_or parts_after worker p) (l ++ all_clean (slice_index_or blocks worker []))
 
 -- the number is the least bad number of these blocks, or 2^64 - 1 if they have none
-pub record IsLeastBad (least_bad : ℕ → Option ℕ) (blocks number : ℕ) : Type 0 where
+pub record IsLeastOfRound (least_bad : ℕ → Option ℕ) (blocks number : ℕ) : Type 0 where
   pub none_less : (block bad : ℕ) → block < blocks → least_bad block ≡ Some bad → number ≤ bad
   pub found : number < nothing_bad → (block : ℕ) × (block < blocks) × (least_bad block ≡ Some number)
   pub clean : number ≡ nothing_bad → (block : ℕ) → block < blocks → least_bad block ≡ None

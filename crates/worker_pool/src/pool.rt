@@ -2,7 +2,7 @@
 ghost use Rattle.std.specs.Prelude.{◌≡◌, ℕ, ◌+◌, ◌<◌, ◌≤◌, ◌^◌, ◌-◌, Option, length, sum, All, IfSome, IfOk, OnOk, OnErr};
 ghost use Rattle.claim_table.specs.Claims.{plan};
 ghost use Rattle.worker_pool.specs.Loops.{AreReady, HaveRun, MayCross};
-ghost use Rattle.worker_pool.specs.Rounds.{IsLoop, AreLoops, IsRound, IsCleanRound, IsLeastBad, with_answer};
+ghost use Rattle.worker_pool.specs.Rounds.{IsLoop, AreLoops, IsRound, IsCleanRound, IsLeastOfRound, with_answer};
 ghost use Rattle.worker_pool.specs.Shares.{GrewBy};
 
 use crate::gate::Gate;
@@ -152,7 +152,7 @@ fn round_of<R: Threads + Sync, J: Job, G: Gate, C: Claimer + Send>(
     ensures ready { All (λ p. J.is_ready job.now p) parts.new }
     ensures worked { IfOk result (λ r. IsRound (J.stands_for job.now)
         (plan blocks (length parts.old)) r.owners r.least_bad parts.old parts.new) }
-    ensures least { IfOk result (λ r. IsLeastBad (J.least_bad job.now) blocks r.least_bad) }
+    ensures least { IfOk result (λ r. IsLeastOfRound (J.least_bad job.now) blocks r.least_bad) }
 {
     let workers = parts.len() as u32;
     let (board, mut seats) = C::start(alloc, blocks, workers)?;
@@ -191,7 +191,7 @@ pub fn run_round<R: Threads + Sync, J: Job, G: Gate>(
         (plan blocks (length parts.old)) r.owners r.least_bad parts.old parts.new) }
 
     // The least bad number is exact, and with nothing bad each part stands for its blocks besides.
-    ensures least { IfOk result (λ r. IsLeastBad (J.least_bad job.now) blocks r.least_bad) }
+    ensures least { IfOk result (λ r. IsLeastOfRound (J.least_bad job.now) blocks r.least_bad) }
     ensures clean { IfOk result (λ r. r.least_bad ≡ 2 ^ 64 - 1
         → IsCleanRound (J.stands_for job.now) (plan blocks (length parts.old)) r.owners parts.old parts.new) }
 
