@@ -49,7 +49,7 @@ clean_numbers job h j from below =
     (h block (in_round job j from below)) j start (omega arith)
 
 pub least_number : (job : JobView) (number : ℕ)
-    → pool.IsLeastBad (least_bad_of job) (block_count job.first job.end) number → number < nothing_bad
+    → pool.IsLeastOfRound (least_bad_of job) (block_count job.first job.end) number → number < nothing_bad
     → IsLeastBad (is_bad_of job.problem) job.first job.end number
 least_number job number h fits =
     let there = h.found fits in
@@ -156,18 +156,18 @@ job_of p t first end = record { problem = p; table = t; first = first; end = end
 
 pub least_of_range : (job : JobView) (p : ProblemView) (t : FactorTable) (first end blocks number : ℕ)
     → job ≡ job_of p t first end → blocks ≡ block_count job.first job.end
-    → pool.IsLeastBad (least_bad_of job) blocks number → number ≢ nothing_bad → number < 2 ^ 64
+    → pool.IsLeastOfRound (least_bad_of job) blocks number → number ≢ nothing_bad → number < 2 ^ 64
     → IsLeastBad (is_bad_of p) first end number
 least_of_range job p t first end blocks number e b h apart fits =
     subst (λ (j : JobView). IsLeastBad (is_bad_of j.problem) j.first j.end number) e
-    (least_number job number (subst (λ n. pool.IsLeastBad (least_bad_of job) n number) b h) (less number apart fits))
+    (least_number job number (subst (λ n. pool.IsLeastOfRound (least_bad_of job) n number) b h) (less number apart fits))
   where
     less : (n : ℕ) → n ≢ nothing_bad → n < 2 ^ 64 → n < nothing_bad
     less n ne lt = grind arith
 
 pub round_is_clean : (job : JobView) (p : ProblemView) (t : FactorTable) (first end blocks number : ℕ) (owners : List ℕ) (parts after : List PartSum) (old new : List ℕ)
     → job ≡ job_of p t first end → blocks ≡ block_count job.first job.end → KeepsJob job → first < end
-    → pool.IsLeastBad (least_bad_of job) blocks number → number ≡ nothing_bad
+    → pool.IsLeastOfRound (least_bad_of job) blocks number → number ≡ nothing_bad
     → All (λ part. IsReady job part × StandsFor job part []) parts → length after ≡ length parts
     → IsCleanRound (StandsFor job) (plan blocks (length parts)) owners parts after
     → AreResidues p old → length new ≡ length old → AreReduced p new
@@ -175,7 +175,7 @@ pub round_is_clean : (job : JobView) (p : ProblemView) (t : FactorTable) (first 
     → NoneBad (is_bad_of p) first end × AreResidues p new × GrewByNumbers p first end old new
 round_is_clean job p t first end blocks number owners parts after old new e b rules order least none empty long clean was same reduced added =
     let no_bad : (block : ℕ) → block < block_count job.first job.end → least_bad_of job block ≡ None =
-    (subst (λ n. pool.IsLeastBad (least_bad_of job) n number) b least).clean none in
+    (subst (λ n. pool.IsLeastOfRound (least_bad_of job) n number) b least).clean none in
     let is_first = ap (λ (j : JobView). j.first) e in
     let is_end = ap (λ (j : JobView). j.end) e in (
       subst (λ (j : JobView). NoneBad (is_bad_of j.problem) j.first j.end) e (clean_numbers job no_bad),
