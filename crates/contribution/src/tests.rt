@@ -149,9 +149,10 @@ fn one_term_without_psi_classes(rt: HostRuntime) -> Result<(), Fail> {
 }
 
 #[test]
-fn psi_classes(rt: HostRuntime) -> Result<(), Fail> {
+fn several_terms_and_psi_classes(rt: HostRuntime) -> Result<(), Fail> {
     let alloc = rt.alloc();
     let two = [1, 3];
+    let five = [1, 10, 100, 1000, 10_000];
     let psi = |mark: u8| Class::Psi { mark };
     let one = Terms::of(vec![in alloc; term(alloc, 1, &[power(psi(1), 1)])?]?);
     assert_eq!(rt;
@@ -171,15 +172,6 @@ fn psi_classes(rt: HostRuntime) -> Result<(), Fail> {
         Some(0),
         "above the dimension"
     );
-    Ok(())
-}
-
-#[test]
-fn several_terms(rt: HostRuntime) -> Result<(), Fail> {
-    let alloc = rt.alloc();
-    let two = [1, 3];
-    let five = [1, 10, 100, 1000, 10_000];
-    let psi = |mark: u8| Class::Psi { mark };
     let sum = Terms::of(vec![in alloc;
         term(
             alloc,
