@@ -5,7 +5,7 @@ use Rattle.trees.specs.Decorated.{DecoratedTree, all_trees}
 use Rattle.lists.specs.Members.{IsIn}
 use Rattle.trees.specs.TreeNumbers.{number_of}
 use Rattle.trees.proofs.TreeNumbers.{tree_of_in_all_trees}
-use Rattle.localisation.specs.Agreement.{IsLeastBad, IsFirstBad}
+use Rattle.localisation.specs.Agreement.{NoneBad, IsLeastBad, IsFirstBad}
 use Rattle.localisation.proofs.AllNumbers.{bad_number_of, none_append}
 use Rattle.problem.specs.Rules.{ProblemView, KeepsRules}
 use Rattle.problem.specs.Sums.{count_of, is_bad_of, is_bad_modulo, is_bad_tree_of}
@@ -113,7 +113,7 @@ no_less p number rules least g i bad =
     ⊎_elim (λ l. absurd (least.least (number_of p.shape g) (omega arith) l n.1)) (λ h. h) (cases_lt (number_of p.shape g) number)
 
 of_all_trees : (p : ProblemView) (number index : ℕ) → KeepsRules p → IsLeastBad (is_bad_of p) 0 (count_of p) number
-    → IsFirstBad (is_bad_modulo p number) p.moduli modulus → LacksInverse p number index
+    → IsFirstBad (is_bad_modulo p number) p.moduli index → LacksInverse p number index
 of_all_trees p number index rules least first = record {
   least = least;
   first = first;
@@ -206,7 +206,7 @@ pause_printed r request b _ _ _ asks begins sums (paused source next residues sa
       paused = h;
       truth = λ t. truth (true_at b sums.rules t);
       cause = ⊎_elim
-          (λ early. inr (before_end b next early left, sums.stopped early))
+          (λ early. let stopped = sums.stopped early in inr (before_end b next early left, stopped.0, stopped.1))
           (λ late. inl (
             sym (paused_end (count_of b.sum.problem) b.sum.next b.plan.budget sums.progress.rounds next at left (λ early. omega (arith, early, late))),
             sums.kept (λ early. omega (arith, early, late)),

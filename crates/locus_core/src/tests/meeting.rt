@@ -5,12 +5,13 @@
 use crate::tests::cases::{CUBIC_SUM, CUBICS};
 use crate::tests::{outcome_by, sound};
 use std::alloc::Global;
+use std::process::Abort;
 use std::test::Fail;
 use std::thread::Threads;
 use worker_pool::{Hold, MeetingGate};
 
 // The cubics are summed by two workers through a gate, at which both come to their turns and none gives up.
-fn meet<R: Threads + Sync>(rt: &R, alloc: Global, gate: &MeetingGate) -> Result<(), Fail> {
+fn meet<R: Threads + Sync + Abort>(rt: &R, alloc: Global, gate: &MeetingGate) -> Result<(), Fail> {
     let words = ["locus", "run", "f", "--workers", "2"];
     let ended = outcome_by(rt, alloc, &words, &sound(CUBICS), gate)?;
     let told = ended.told(alloc)?;
