@@ -26,7 +26,7 @@ abbrev pub run_of : List (List ℕ) → Change FilesState → Change SinkState �
 run_of words files out err stopper shares =
     record { words = words; files = files; out = out; err = err; stopper = stopper; shares = shares }
 
--- nothing was summed, nothing was printed, and nobody asked for a stop
+-- nothing was printed, nobody asked for a stop, and there are no shares
 pub record IsIdle (run : Run) : Type 0 where
   pub out : Unchanged run.out
   pub stopper : Unchanged run.stopper
@@ -75,7 +75,7 @@ pub record CheckpointRefused (r : Run) : Type 0 where
   pub idle : IsIdle r
   pub err : Tells r.err (refused_checkpoint_line error)
 
--- The file that is asked for was not read: the files counted a fault at its name.
+-- A load of the file that is asked for failed: the files counted a fault at its name.
 pub record ReadFault (run : Run) : Type 0 where
   pub request : Request
   pub name : List ℕ
