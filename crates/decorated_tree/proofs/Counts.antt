@@ -106,9 +106,6 @@ pub record AreCounted (s : TreeShape) (n : ℕ) (sizes : List ℕ) (count : ℕ)
   pub total : count ≡ trees_from s 2 (n - 2)
   pub limited : count ≤ 1099511627776
 
-pub counted_none : (s : TreeShape) → AreCounted s 2 [] 0
-counted_none s = record { counts = refl; total = refl; limited = omega arith }
-
 pub counted_push : (s : TreeShape) (n : ℕ) (counts : List ℕ) (count size : ℕ) → 2 ≤ n → size ≡ trees_with s n
     → count + size ≤ 1099511627776
     → AreCounted s n counts count → AreCounted s (n + 1) (counts ++ size ∷ []) (count + size)

@@ -45,9 +45,6 @@ pub record IsFirst (total others rank degree rest : ℕ) : Type 0 where
   pub below : rest < choose (total - degree) others
   pub passed : rank ≡ lists_passed total others (degree - 1) + rest
 
-pub first_start : (total others rank : ℕ) → rank < choose (total - 1) others → IsFirst total others rank 1 rank
-first_start total others rank h = record { positive = omega arith; below = h; passed = omega arith }
-
 pub first_step : (total others rank degree rest passed : ℕ) → 1 ≤ others → degree < total
     → passed ≡ choose (total - degree - 1) (others - 1) → passed ≤ rest
     → IsFirst total others rank degree rest → IsFirst total others rank (degree + 1) (rest - passed)
@@ -90,18 +87,6 @@ pub record IsMade (count total rank place : ℕ) (degrees : List ℕ) (left rest
   pub below : rest < choose (left - 1) (count - place - 1)
   pub lists : (tail : List ℕ) → AreDegrees (count - place) left tail
       → AreDegrees count total (made ++ tail) × (binomial_rank (made ++ tail) total + rest ≡ rank + binomial_rank tail left)
-
-pub made_start : (count total rank : ℕ) → count ≤ total → rank < choose (total - 1) (count - 1)
-    → IsMade count total rank 0 (replicate 10 0) total rank
-made_start count total rank h b = record {
-  made = [];
-  long = refl;
-  places = refl;
-  enough = omega arith;
-  most = omega arith;
-  below = subst (λ z. rank < choose (total - 1) (z - 1)) (let e : count ≡ count - 0 = omega arith in e) b;
-  lists = λ tail a. (subst (λ z. AreDegrees z total tail) (let e : count - 0 ≡ count = omega arith in e) a, omega arith);
-}
 
 rank-first : (f left k : ℕ) (tail : List ℕ) → length tail ≡ k → 1 ≤ k
     → binomial_rank (f ∷ tail) left ≡ lists_passed left k (f - 1) + binomial_rank tail (left - f)
@@ -194,20 +179,6 @@ made_end count total rank degrees left rest place some enough small is m =
 pub record IsPassed (total others first lists : ℕ) : Type 0 where
   pub value : lists ≡ lists_passed total others first
   pub limited : lists ≤ 256 * first
-
-pub passed_start : (total others : ℕ) → IsPassed total others 0 0
-passed_start total others = record { value = refl; limited = omega arith }
-
-pub passed_step : (total others first lists more : ℕ) → more ≡ choose (total - (first + 1) - 1) (others - 1)
-    → more < 256 → IsPassed total others first lists → IsPassed total others (first + 1) (lists + more)
-passed_step total others first lists more e h p =
-    let v = p.value in
-    let l = p.limited in
-    let m = passed-more total others (first + 1) (omega arith) in
-    let back : first + 1 - 1 ≡ first = omega arith in
-    let same : lists_passed total others (first + 1 - 1) ≡ lists_passed total others first =
-    ap (lists_passed total others) back in
-    record { value = omega arith; limited = omega arith }
 
 -- the parts of a list of degrees with more than one number
 pub record DegreeParts (total a : ℕ) (ds : List ℕ) : Type 0 where

@@ -5,9 +5,6 @@ use Rattle.decorated_tree.specs.Growth.{Grows}
 pub grows_on : (a b c : List ℕ) → Grows a b → Grows b c → Grows a c
 grows_on a b c p q = record { more = p.more ++ q.more; is = q.is ∙ ap (λ l. l ++ q.more) p.is ∙ append_assoc a p.more q.more }
 
-pub grows_by : (a b x : List ℕ) → b ≡ a ++ x → Grows a b
-grows_by a b x e = record { more = x; is = e }
-
 pub six_more : (o a b c d e f u v w x y z : List ℕ) → a ≡ o ++ u → b ≡ a ++ v → c ≡ b ++ w → d ≡ c ++ x → e ≡ d ++ y
     → f ≡ e ++ z → f ≡ o ++ (u ++ v ++ w ++ x ++ y ++ z)
 six_more o a b c d e f u v w x y z p q r s t i = rw (i, t, s, r, q, p) (simp append_assoc)

@@ -6,7 +6,7 @@ use Rattle.std.proofs.lemmas.List.{length-replicate, get_or-replicate}
 use Rattle.std.proofs.lemmas.List.Elements.{All-from_get_or}
 use Rattle.lists.specs.Digits.{AreDigits, joined, product_of}
 use Rattle.lists.proofs.Digits.{split-joined}
-use Rattle.mixed_radix.proofs.Suffixes.{IsCarriedTo, carry_start, carry_step, carry_end, carry_through, length-digits, digit_below}
+use Rattle.mixed_radix.proofs.Suffixes.{IsCarriedTo, carry_step, carry_end, carry_through, length-digits, digit_below}
 use Rattle.decorated_tree.specs.Following.{GoOn, colour_bases}
 use Rattle.lists.proofs.Digits.{digits_join}
 
@@ -15,16 +15,6 @@ use Rattle.lists.proofs.Digits.{digits_join}
 -- is that of the old letters plus 1
 abbrev pub IsCounted : ℕ → List ℕ → List ℕ → ℕ → Type 0
 IsCounted base old letters place = IsCarriedTo (replicate (length old) base) old letters place
-
-pub counted_start : (base : ℕ) (old : List ℕ) → AreDigits (replicate (length old) base) old
-    → IsCounted base old old (length old)
-counted_start base old h =
-    carry_start (replicate (length old) base) old (length old) (sym (length-replicate (length old) base)) h
-
-pub counted_long : (base : ℕ) (old letters : List ℕ) (place : ℕ) → IsCounted base old letters place
-    → length letters ≡ length old
-counted_long base old letters place s =
-    length-digits (replicate (length old) base) letters s.digits ∙ length-replicate (length old) base
 
 pub letter_below : (base : ℕ) (old letters : List ℕ) (place i : ℕ) → i < length old → IsCounted base old letters place
     → get_or letters i 0 < base
@@ -125,25 +115,6 @@ go_on_carry false bs cs ps qs xs ys h g k =
 
     count : (w r j q p x : ℕ) → w ≡ q * p → r ≡ j * p + x → j + 1 ≡ q → x + 1 ≡ p → r + 1 ≡ w
     count w r j q p x e f g h = omega (arith, ap (λ z. z * p) g)
-
--- ---- the digits of colours
-pub first_goes_on : (bases ps qs : List ℕ) (r first : ℕ) → first < r → GoOn bases ps qs false
-    → GoOn ((r + 1) ∷ bases) (first ∷ ps) ((first + 1) ∷ qs) true
-first_goes_on bases ps qs r first h g =
-    let z = g.1 in
-    let p = g.2 in
-    ((omega arith, g.0), count first (product_of bases) (joined bases ps) (joined bases qs) z p)
-  where
-    count : (f p x y : ℕ) → y ≡ 0 → x + 1 ≡ p → (f + 1) * p + y ≡ f * p + x + 1
-    count f p x y e h = omega arith
-
-pub first_goes_back : (bases ps qs : List ℕ) (r first : ℕ) → first ≡ r → GoOn bases ps qs false
-    → GoOn ((r + 1) ∷ bases) (first ∷ ps) (0 ∷ qs) false
-first_goes_back bases ps qs r first h g =
-    ((omega arith, g.0), (let z = g.1 in omega arith), count first r (product_of bases) (joined bases ps) h g.2)
-  where
-    count : (f r p x : ℕ) → f ≡ r → x + 1 ≡ p → f * p + x + 1 ≡ (r + 1) * p
-    count f r p x e h = omega (arith, ap (λ z. z * p) e)
 
 pub go_on_digits : (more : Bool) (bases old new : List ℕ) → GoOn bases old new more → AreDigits bases new
 go_on_digits true bases old new g = g.0

@@ -1,15 +1,14 @@
 -- The walk from vertex 0, one edge after the other.
-use Rattle.std.proofs.Common.{◌≡◌, ◌≢◌, ℕ, zero, suc, ◌+◌, ◌<◌, ◌≤◌, Bool, true, false, ◌&&◌, ◌||◌, ◌==◌, not, nat_lt, if◌then◌else◌, List, [], ◌∷◌, ◌++◌, length, get_or, set, drop, replicate, Option, Some, None, refl, sym, ap, ◌∙◌, subst, inl, inr, ◌⊎◌, ⊎_elim, arith, eqb-true, append_assoc, length-append, length-set, get_or-set_other, get_or-set_same}
+use Rattle.std.proofs.Common.{◌≡◌, ◌≢◌, ℕ, zero, suc, ◌+◌, ◌<◌, ◌≤◌, Bool, true, false, ◌&&◌, ◌||◌, ◌==◌, not, nat_lt, if◌then◌else◌, List, [], ◌∷◌, ◌++◌, length, get_or, set, drop, Option, Some, None, refl, sym, ap, ◌∙◌, subst, inl, inr, ◌⊎◌, ⊎_elim, arith, eqb-true, append_assoc, length-append, length-set, get_or-set_other, get_or-set_same}
 use Rattle.std.specs.List.{list_all}
 use Rattle.std.proofs.lemmas.Bool.{cases_eq, and_parts}
 use Rattle.std.proofs.lemmas.Bool.Decides.{nat_tests}
 use Rattle.std.proofs.lemmas.List.{drop_more}
-use Rattle.std.proofs.Math.ListN.{drop_of_length-le}
 use Rattle.lists.specs.Ranges.{below}
 use Rattle.trees.specs.Edges.{is_tree}
 use Rattle.lists.specs.Members.{is_member, AllDifferent}
 use Rattle.trees.specs.Words.{edge_between}
-use Rattle.trees.specs.Walks.{steps_of, after, walk_in, IsWalk, lifted, place_of, coloured, digits_of}
+use Rattle.trees.specs.Walks.{steps_of, after, walk_in, IsWalk}
 use Rattle.lists.proofs.Members.{each_of, in_place}
 use Rattle.lists.proofs.Different.{subset_length, member-below, length-below}
 use Rattle.trees.proofs.WalkLaws.{Within}
@@ -93,21 +92,6 @@ pub record AreThere (marks : List Bool) (before : List ℕ) : Type 0 where
   pub long : length marks ≡ 11
   pub at : (v : ℕ) → v < 11 → get_or marks v false ≡ is_member v before
 
-no_mark : (m v : ℕ) → get_or (replicate {A = Bool} m false) v false ≡ false
-no_mark zero v = refl
-no_mark (suc m) zero = refl
-no_mark (suc m) (suc v) = no_mark m v
-
-pub first_there : AreThere (true ∷ replicate 10 false) (0 ∷ [])
-first_there = record { long = refl; at = at }
-  where
-    none : (v : ℕ) → ((0 == suc v) || false) ≡ false
-    none v = grind (arith, nat_tests)
-
-    at : (v : ℕ) → v < 11 → get_or (true ∷ replicate {A = Bool} 10 false) v false ≡ ((0 == v) || false)
-    at zero h = refl
-    at (suc v) h = no_mark 10 v ∙ sym (none v)
-
 more_there : (marks : List Bool) (before : List ℕ) (v : ℕ) → v < 11 → AreThere marks before
     → AreThere (set marks v true) (v ∷ before)
 more_there marks before v h a = record {
@@ -133,22 +117,6 @@ more_there marks before v h a = record {
 pub record IsWalking (n : ℕ) (es : List (ℕ × ℕ)) (rounds : ℕ) (rest : List (ℕ × ℕ)) (walk : List (ℕ × ℕ)) (marks : List Bool) : Type 0 where
   pub there : AreThere marks (after walk (0 ∷ []))
   pub whole : walk ++ (steps_of rest (after walk (0 ∷ [])) ++ walk_in rounds es (after (steps_of rest (after walk (0 ∷ []))) (after walk (0 ∷ [])))) ≡ walk_in n es (0 ∷ [])
-
-pub walking_start : (n : ℕ) (es : List (ℕ × ℕ)) (marks : List Bool) → marks ≡ true ∷ replicate 10 false
-    → IsWalking n es n [] [] marks
-walking_start n es marks e = record { there = subst (λ m. AreThere m (0 ∷ [])) (sym e) first_there; whole = refl }
-
--- a round begins
-pub walking_round : (n : ℕ) (es : List (ℕ × ℕ)) (rounds more : ℕ) (walk : List (ℕ × ℕ)) (marks : List Bool)
-    → rounds ≡ suc more → IsWalking n es rounds [] walk marks → IsWalking n es more es walk marks
-walking_round n es rounds more walk marks e w =
-    let v = subst (λ k. IsWalking n es k [] walk marks) e w in
-    record { there = v.there; whole = v.whole }
-
--- a round ends
-pub walking_end : (n : ℕ) (es : List (ℕ × ℕ)) (rounds i : ℕ) (walk : List (ℕ × ℕ)) (marks : List Bool) → length es ≤ i
-    → IsWalking n es rounds (drop i es) walk marks → IsWalking n es rounds [] walk marks
-walking_end n es rounds i walk marks h w = subst (λ l. IsWalking n es rounds l walk marks) (drop_of_length-le es h) w
 
 step_taken : (e : ℕ × ℕ) (es : List (ℕ × ℕ)) (before : List ℕ) (s : ℕ × ℕ)
     → step_by e (is_member e.0 before) (is_member e.1 before) ≡ Some s
@@ -303,23 +271,3 @@ pub within_at : (n : ℕ) (walk : List (ℕ × ℕ)) (i : ℕ) → AreWithin n w
 within_at n [] i w h = absurd (omega arith)
 within_at n (s ∷ walk) zero w h = (w.0, w.1)
 within_at n (s ∷ walk) (suc i) w h = within_at n walk i w.2 (omega arith)
-
-pub colour_step : (walk : List (ℕ × ℕ)) (ds cs all : List ℕ) (i : ℕ) → i < length walk
-    → coloured (drop i walk) ds cs ≡ all
-    → coloured (drop (i + 1) walk) ds (set cs (get_or walk i (0, 0)).0 (lifted (get_or ds (get_or walk i (0, 0)).0 0) (get_or cs (get_or walk i (0, 0)).1 0)))
-    ≡ all
-colour_step walk ds cs all i h e = sym (ap (λ w. coloured w ds cs) (drop_more walk i (0, 0) h)) ∙ e
-
-pub colour_end : (walk : List (ℕ × ℕ)) (ds cs all : List ℕ) (i : ℕ) → length walk ≤ i
-    → coloured (drop i walk) ds cs ≡ all → cs ≡ all
-colour_end walk ds cs all i h e = sym (ap (λ w. coloured w ds cs) (drop_of_length-le walk h)) ∙ e
-
-pub digit_step : (walk : List (ℕ × ℕ)) (cs ds all : List ℕ) (i : ℕ) → i < length walk
-    → digits_of (drop i walk) cs ds ≡ all
-    → digits_of (drop (i + 1) walk) cs (set ds (get_or walk i (0, 0)).0 (place_of (get_or cs (get_or walk i (0, 0)).0 0) (get_or cs (get_or walk i (0, 0)).1 0)))
-    ≡ all
-digit_step walk cs ds all i h e = sym (ap (λ w. digits_of w cs ds) (drop_more walk i (0, 0) h)) ∙ e
-
-pub digit_end : (walk : List (ℕ × ℕ)) (cs ds all : List ℕ) (i : ℕ) → length walk ≤ i
-    → digits_of (drop i walk) cs ds ≡ all → ds ≡ all
-digit_end walk cs ds all i h e = sym (ap (λ w. digits_of w cs ds) (drop_of_length-le walk h)) ∙ e

@@ -51,10 +51,6 @@ over : (m n t : ℕ) → Same m (over_word m n t) (t * ((m * n + 1) / 2 ^ 64))
 unfolding over_word
 over m n t = same_mod m (t * ((m * n + 1) / 2 ^ 64))
 
-pub over_word_below : (m n t : ℕ) → 0 < m → over_word m n t < m
-unfolding over_word
-over_word_below m n t h = omega arith
-
 -- a residue whose product with R leaves t is t over R
 from_product : (r m k x t : ℕ) → Same m (r * k) 1 → Same m (x * r) t → Same m x (t * k)
 from_product r m k x t unit h =
