@@ -149,10 +149,9 @@ fn one_term_without_psi_classes(rt: HostRuntime) -> Result<(), Fail> {
 }
 
 #[test]
-fn several_terms_and_psi_classes(rt: HostRuntime) -> Result<(), Fail> {
+fn psi_classes(rt: HostRuntime) -> Result<(), Fail> {
     let alloc = rt.alloc();
     let two = [1, 3];
-    let five = [1, 10, 100, 1000, 10_000];
     let psi = |mark: u8| Class::Psi { mark };
     let one = Terms::of(vec![in alloc; term(alloc, 1, &[power(psi(1), 1)])?]?);
     assert_eq!(rt;
@@ -172,41 +171,37 @@ fn several_terms_and_psi_classes(rt: HostRuntime) -> Result<(), Fail> {
         Some(0),
         "above the dimension"
     );
+    Ok(())
+}
+
+#[test]
+fn several_terms(rt: HostRuntime) -> Result<(), Fail> {
+    let alloc = rt.alloc();
+    let psi = |mark: u8| power(Class::Psi { mark }, 1);
+    let mark = |mark: u8, exponent: u8| power(Class::Mark { mark }, exponent);
+    let incidence = power(Class::Incidence { q: 2 }, 1);
     let sum = Terms::of(vec![in alloc;
-        term(
-            alloc,
-            2,
-            &[power(psi(1), 1), power(Class::Mark { mark: 2 }, 2)]
-        )?,
-        term(
-            alloc,
-            -5,
-            &[power(psi(4), 1), power(Class::Incidence { q: 2 }, 1)]
-        )?,
+        term(alloc, 2, &[psi(1), mark(2, 2)])?,
+        term(alloc, -5, &[psi(4), incidence])?,
     ]?);
-    let found = residue_at(&rt, &two, &sum, MARKED_PATH, PRIME)?;
+    let found = residue_at(&rt, &[1, 3], &sum, MARKED_PATH, PRIME)?;
     assert_eq!(rt; found, Some(1_969_574_237_036_696_893), "two terms");
+    let five = [1, 10, 100, 1000, 10_000];
+    let quintic = power(Class::Hypersurface { b: 5 }, 1);
+    let contact = power(Class::Contact, 2);
     let large = Terms::of(vec![in alloc;
-        term(alloc, 7, &[power(Class::Hypersurface { b: 5 }, 1)])?,
+        term(alloc, 7, &[quintic])?,
         term(
             alloc,
             -1_000_000_000,
-            &[
-                power(Class::Mark { mark: 4 }, 3),
-                power(psi(1), 1),
-                power(psi(2), 1),
-                power(Class::Contact, 2)
-            ]
+            &[mark(4, 3), psi(1), psi(2), contact]
         )?,
     ]?);
     let found = residue_at(&rt, &five, &large, STAR, PRIME)?;
     assert_eq!(rt; found, Some(1_296_364_964_188_416_103), "a star");
     let none = Terms::of(Vec::new(alloc));
-    assert_eq!(rt;
-        residue_at(&rt, &five, &none, STAR, PRIME)?,
-        Some(0),
-        "no term"
-    );
+    let found = residue_at(&rt, &five, &none, STAR, PRIME)?;
+    assert_eq!(rt; found, Some(0), "no term");
     Ok(())
 }
 

@@ -26,23 +26,25 @@ fn residue_at(
     Ok(edge(&setup, i, j, degree, &modulus).ok())
 }
 
+/// Thirteen weights, the least and the greatest among them.
+const MANY: &[i64] = &[
+    -999_999_999,
+    1_000_000_000,
+    7,
+    2,
+    5,
+    -3,
+    11,
+    13,
+    17,
+    19,
+    23,
+    29,
+    31,
+];
+
 #[test]
 fn residues_of_edges(rt: HostRuntime) -> Result<(), Fail> {
-    let many = [
-        -999_999_999,
-        1_000_000_000,
-        7,
-        2,
-        5,
-        -3,
-        11,
-        13,
-        17,
-        19,
-        23,
-        29,
-        31,
-    ];
     for (weights, ends, degree, modulus, residue) in [
         ([1, 3].as_slice(), (0, 1), 2, 101, 38),
         ([1, 3].as_slice(), (1, 0), 2, 1001, 876),
@@ -70,7 +72,7 @@ fn residues_of_edges(rt: HostRuntime) -> Result<(), Fail> {
             PRIME,
             1_371_279_543_273_766_536,
         ),
-        (many.as_slice(), (1, 0), 7, PRIME, 2_583_033_824_653_135_352),
+        (MANY, (1, 0), 7, PRIME, 2_583_033_824_653_135_352),
     ] {
         let found = residue_at(&rt, weights, ends, degree, modulus)?;
         assert_eq!(rt; found, Some(residue), "degree {degree} modulo {modulus}");
