@@ -8,7 +8,7 @@ use Rattle.problem.specs.Rules.{ProblemView}
 use Rattle.problem.specs.Sums.{count_of}
 use Rattle.problem_toml.specs.Reading.{reading}
 use Rattle.problem_toml.specs.declared.error.ProblemError.{ProblemError}
-use Rattle.checkpoint.specs.Readers.{problem_of, shown_count, counts_fit, residues_fit, state_of}
+use Rattle.checkpoint.specs.Readers.{problem_or_refusal, shown_count, counts_fit, residues_fit, state_of}
 use Rattle.checkpoint.specs.Refusals.{Writes, WritesFor, HasNext, HasRows, ReachesResidues, IsFirstCount, IsFirstRefused, IsCheckpointRefusal}
 use Rattle.checkpoint.specs.States.{StateView}
 use Rattle.checkpoint.specs.Steps.{◌>>=◌, keep}
@@ -23,11 +23,11 @@ use Rattle.checkpoint.proofs.WordLaws.{bind_ok, bind_err}
 -- ---- what the reading gives in each case
 
 module _ (c : Contents) where
-  pub at_problem : (e : CheckpointError) → problem_of (reading c.source) ≡ Err e → state_of c ≡ Err e
+  pub at_problem : (e : CheckpointError) → problem_or_refusal (reading c.source) ≡ Err e → state_of c ≡ Err e
   unfolding state_of
   at_problem e h = rw h refl
 
-  module _ (p : ProblemView) (read : problem_of (reading c.source) ≡ Ok p) where
+  module _ (p : ProblemView) (read : problem_or_refusal (reading c.source) ≡ Ok p) where
     pub at_next : count_of p < c.next → state_of c ≡ Err (NextTooLarge c.next (count_of p))
     unfolding state_of
     at_next large = rw (read, lt-leb c.next (count_of p) large) refl
@@ -60,11 +60,11 @@ module _ (c : Contents) where
 
 -- ---- what was read is written
 
-problem_ok : (r : Result ProblemView ProblemError) (p : ProblemView) → problem_of r ≡ Ok p → r ≡ Ok p
+problem_ok : (r : Result ProblemView ProblemError) (p : ProblemView) → problem_or_refusal r ≡ Ok p → r ≡ Ok p
 problem_ok (Ok q) p h = cc
 problem_ok (Err why) p h = absurd cc
 
-problem_err : (r : Result ProblemView ProblemError) (e : CheckpointError) → problem_of r ≡ Err e
+problem_err : (r : Result ProblemView ProblemError) (e : CheckpointError) → problem_or_refusal r ≡ Err e
     → (why : ProblemError) × (r ≡ Err why) × (ProblemRefused why ≡ e)
 problem_err (Ok q) e h = absurd cc
 problem_err (Err why) e h = (why, refl, cc)
@@ -110,7 +110,7 @@ text_of_state text c p w lines each =
 pub state_ok : (text : List ℕ) (c : Contents) (s : StateView) → Writes text c → state_of c ≡ Ok s → IsTextOf s text
 unfolding state_of
 state_ok text c s w h =
-    let a = bind_ok (problem_of (reading c.source)) (next_rules c) s h in
+    let a = bind_ok (problem_or_refusal (reading c.source)) (next_rules c) s h in
     let p = a.0 in
     let k1 = keep_ok (leb c.next (count_of p)) (NextTooLarge c.next (count_of p)) (line_rules c p) s a.2 in
     let k2 =
@@ -127,7 +127,7 @@ pub state_err : (text : List ℕ) (c : Contents) (e : CheckpointError) → Write
 unfolding state_of
 state_err text c e w h =
     let size = sizes text c w in
-    elim (bind_err (problem_of (reading c.source)) (next_rules c) e h) [
+    elim (bind_err (problem_or_refusal (reading c.source)) (next_rules c) e h) [
       | inl fault ↦
           let why = problem_err (reading c.source) e fault in
           subst (IsCheckpointRefusal text) why.2 (c, w, why.1)
@@ -181,10 +181,10 @@ state_err text c e w h =
 
 pub refused_problem : (text : List ℕ) (c : Contents) (why : ProblemError) → reading c.source ≡ Err why
     → state_of c ≡ Err (ProblemRefused why)
-refused_problem text c why read = at_problem c (ProblemRefused why) (ap problem_of read)
+refused_problem text c why read = at_problem c (ProblemRefused why) (ap problem_or_refusal read)
 
-read_of : (text : List ℕ) (c : Contents) (p : ProblemView) → WritesFor p text c → problem_of (reading c.source) ≡ Ok p
-read_of text c p for = ap problem_of for.problem
+read_of : (text : List ℕ) (c : Contents) (p : ProblemView) → WritesFor p text c → problem_or_refusal (reading c.source) ≡ Ok p
+read_of text c p for = ap problem_or_refusal for.problem
 
 pub refused_next : (text : List ℕ) (c : Contents) (p : ProblemView) → WritesFor p text c → count_of p < c.next
     → state_of c ≡ Err (NextTooLarge c.next (count_of p))

@@ -11,7 +11,7 @@ use Rattle.problem.specs.Rules.{ProblemView}
 use Rattle.problem_toml.specs.Reading.{reading, reading_of_any_length}
 use Rattle.problem_toml.specs.declared.error.ProblemError.{ProblemError}
 use Rattle.problem_toml.specs.declared.error.ProblemError.TheVariants as problem_errors
-use Rattle.checkpoint.specs.Readers.{problem_of, counts_fit, residues_fit, state_of}
+use Rattle.checkpoint.specs.Readers.{problem_or_refusal, counts_fit, residues_fit, state_of}
 use Rattle.checkpoint.specs.Refusals.{IsShort, IsRow, IsKnownVersion, AreContents, Writes}
 use Rattle.checkpoint.specs.States.{StateView, IsState}
 use Rattle.checkpoint.specs.Texts.{Contents, number_line, source_text, residue_text, residues_line, body_of, seal, rows_of, contents_in, text_in, IsTextOf}
@@ -103,7 +103,7 @@ module _ (v : ℕ) (s : StateView) (is : IsState s) (known : IsKnownVersion v) (
       let fit : residues_fit s.problem.moduli 0 (concat (rows_of m n s.residues)) ≡ Ok tt = ap (residues_fit s.problem.moduli 0) joined
       ∙ residues_fit_from s.problem.moduli 0 s.residues
       (λ j lt. subst (λ (k : ℕ). get_or s.residues j 0 < modulus_at s.problem.moduli k) (omega arith) (is.residues.below j lt)) in
-      at_state (contents_in v s) s.problem (ap problem_of is.problem) is.next (length_rows_of m n s.residues)
+      at_state (contents_in v s) s.problem (ap problem_or_refusal is.problem) is.next (length_rows_of m n s.residues)
       (counts_fit_from m (rows_of m n s.residues) (each_row_of m n s.residues is.residues.one_each)) fit
       ∙ ap
       (λ (xs : List ℕ). Ok (record { source = s.source; problem = s.problem; next = s.next; residues = xs })) joined

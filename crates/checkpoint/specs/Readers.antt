@@ -138,9 +138,9 @@ written_at text = do
 
 -- ---- against the problem
 
-abbrev pub problem_of : Result ProblemView ProblemError → Result ProblemView CheckpointError
-problem_of (Ok p) = Ok p
-problem_of (Err why) = Err (ProblemRefused why)
+abbrev pub problem_or_refusal : Result ProblemView ProblemError → Result ProblemView CheckpointError
+problem_or_refusal (Ok p) = Ok p
+problem_or_refusal (Err why) = Err (ProblemRefused why)
 
 -- a count as 32 bits hold it
 abbrev pub shown_count : ℕ → ℕ
@@ -161,7 +161,7 @@ residues_fit moduli place (r ∷ rs) = do
 
 unfoldable pub state_of : Contents → Result StateView CheckpointError
 state_of c = do
-  p ← problem_of (reading c.source)
+  p ← problem_or_refusal (reading c.source)
   _ ← keep (nat_le c.next (count_of p)) (NextTooLarge c.next (count_of p))
   _ ← keep (length c.rows == length p.integrals) (LineCount (shown_count (length c.rows)) (length p.integrals))
   _ ← counts_fit (length p.moduli) c.rows

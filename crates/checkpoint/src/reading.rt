@@ -5,7 +5,7 @@ ghost use Rattle.problem.specs.Problems as problems;
 ghost use Rattle.problem.specs.Sums.{count_of};
 ghost use Rattle.problem_toml.specs.Reading.{reading};
 ghost use Rattle.checkpoint.specs.Bodies.{contents_of};
-ghost use Rattle.checkpoint.specs.Readers.{problem_of, state_of, short_reading, checkpoint_reading};
+ghost use Rattle.checkpoint.specs.Readers.{problem_or_refusal, state_of, short_reading, checkpoint_reading};
 ghost use Rattle.checkpoint.specs.Refusals.{IsCheckpointRefusal};
 ghost use Rattle.checkpoint.specs.States.{StateView, IsState};
 ghost use Rattle.checkpoint.specs.Steps.{Gives};
@@ -24,7 +24,7 @@ const LONGEST: usize = 1_052_672;
 
 /// The problem of a source.
 fn problem(alloc: Global, source: &[u8]) -> Result<Problem, CheckpointError>
-    ensures { Gives problems.view result (problem_of (reading source.now)) }
+    ensures { Gives problems.view result (problem_or_refusal (reading source.now)) }
 {
     match problem_toml::read(alloc, source) {
         Ok(problem) => Ok(problem),

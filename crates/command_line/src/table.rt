@@ -1,7 +1,7 @@
 //! The commands of the program, as tables.
 ghost use Rattle.std.specs.Prelude.{◌≡◌, map};
 ghost use Rattle.command_line.specs.Table.{table_of_commands};
-ghost use Rattle.command_words.specs.Usages.{table_of, usage_of};
+ghost use Rattle.command_words.specs.Usages.{usages_of, usage_of};
 
 use crate::rows::{BATCH, CROSS, MAKE, MERGE, RANK, RESUME, RUN, SOAK, SPLIT, TREES, UNRANK};
 use command_words::{CommandRow, Program};
@@ -63,7 +63,7 @@ fn all_rows() -> &'static [CommandRow<'static>]
 impl Commands {
     /// The program with these commands.
     pub(crate) fn program(self) -> Program<'static>
-        ensures { table_of result ≡ table_of_commands self }
+        ensures { usages_of result ≡ table_of_commands self }
     {
         match self {
             Commands::Built => Program {

@@ -8,7 +8,7 @@ use Rattle.clap.specs.declared.builder.value_parser.ValueParser.TheVariants as v
 use Rattle.command_words.specs.declared.table.Limit.{Limit}
 use Rattle.command_words.specs.declared.table.Limit.TheVariants as limit
 use Rattle.command_words.specs.declared.table.Program.{Program}
-use Rattle.command_words.specs.Usages.{Slot, Usage, table_of}
+use Rattle.command_words.specs.Usages.{Slot, Usage, usages_of}
 
 abbrev pub parser_for : Limit → Option ValueParser
 parser_for (limit.Number low high) = Some (vp.Unsigned low high)
@@ -59,4 +59,4 @@ app_for name table =
     record { top = record (bare_shape (new_shape name)) { is_leaf = false }; subs = map shape_for table }
 
 abbrev pub app_of_program : Program → App
-app_of_program p = app_for p.name.now (table_of p)
+app_of_program p = app_for p.name.now (usages_of p)

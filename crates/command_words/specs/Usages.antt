@@ -35,8 +35,8 @@ usage_of r = record {
   options = map slot_of r.options.now;
 }
 
-abbrev pub table_of : Program → List Usage
-table_of p = map usage_of p.commands.now
+abbrev pub usages_of : Program → List Usage
+usages_of p = map usage_of p.commands.now
 
 -- the value is within the limit: any text, or a number from `low` to `high` as Rust reads a u64
 abbrev pub fits : Limit → Text → Bool

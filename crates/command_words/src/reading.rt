@@ -6,7 +6,7 @@ ghost use Rattle.clap.specs.Values.{kind_of};
 ghost use Rattle.command_words.specs.Clap.{app_of_program};
 ghost use Rattle.command_words.specs.Rows.{GivesUse, usage_named};
 ghost use Rattle.command_words.specs.Taken.{IsWordsAnswer};
-ghost use Rattle.command_words.specs.Usages.{is_sound_table, table_of, usage_of};
+ghost use Rattle.command_words.specs.Usages.{is_sound_table, usages_of, usage_of};
 
 use crate::command::command;
 use crate::given::{Given, given_by};
@@ -61,7 +61,7 @@ fn given_of<'a>(
     program: Program<'a>,
     matches: &ArgMatches<'a>,
 ) -> Result<Option<Given<'a>>, AllocError>
-    ensures { IfOk result (GivesUse (table_of program.entry) matches.now) }
+    ensures { IfOk result (GivesUse (usages_of program.entry) matches.now) }
 {
     let Some((name, inner)) = matches.subcommand() else {
         return Ok(None);
@@ -89,8 +89,8 @@ pub fn read<'a>(
     program: Program<'a>,
     words: &'a [String],
 ) -> Result<Given<'a>, WordsError>
-    requires sound { is_sound_table (table_of program) ≡ true }
-    ensures answer { IsWordsAnswer (table_of program.entry) (map string_bytes words.now) result }
+    requires sound { is_sound_table (usages_of program) ≡ true }
+    ensures answer { IsWordsAnswer (usages_of program.entry) (map string_bytes words.now) result }
 {
     if has_refused_word(words) {
         return Err(WordsError::Refused);

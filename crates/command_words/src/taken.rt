@@ -3,7 +3,7 @@ ghost use Rattle.std.specs.Prelude.{◌≡◌, ◌↔◌, IsTrue, true, map, opt
 ghost use Rattle.clap.specs.Lexer.{long_of, name_and_value, strip_byte};
 ghost use Rattle.command_words.specs.Told.{has_option, is_only, is_option_named, used_from};
 ghost use Rattle.command_words.specs.Taken.{AreTaken};
-ghost use Rattle.command_words.specs.Usages.{fits, is_plain, is_sound_table, slot_of, table_of, usage_of};
+ghost use Rattle.command_words.specs.Usages.{fits, is_plain, is_sound_table, slot_of, usages_of, usage_of};
 ghost use Rattle.command_words.specs.Words.{option_fits};
 
 use crate::numbers::number;
@@ -149,8 +149,8 @@ fn is_used(row: &CommandRow<'_>, words: &[String]) -> bool
 /// Whether the arguments are a use of a command of the table: whether `read` accepts them, if it has memory. Takes no
 /// memory.
 pub fn are_taken(program: Program<'_>, words: &[String]) -> bool
-    requires sound { is_sound_table (table_of program) ≡ true }
-    ensures { IsTrue result ↔ AreTaken (table_of program.entry) (map string_bytes words.now) }
+    requires sound { is_sound_table (usages_of program) ≡ true }
+    ensures { IsTrue result ↔ AreTaken (usages_of program.entry) (map string_bytes words.now) }
 {
     let [_, command, rest @ ..] = words else {
         return false;

@@ -3,7 +3,7 @@ use Rattle.std.proofs.Common.{◌≡◌, ℕ, zero, suc, ◌+◌, ◌-◌, ◌*�
 use Rattle.factor_table.specs.declared.key.Key.{Key}
 use Rattle.factor_table.specs.declared.key.Key.TheVariants.{Edge, Flag, Tangent, Pair, ClassEdge, ClassVertex, Tip}
 use Rattle.factor_table.specs.declared.layout.Sizes.{Sizes}
-use Rattle.factor_table.specs.KeyPlaces.{IsEnd, IsKeyWithin, ends, flags, end_number, flag_number, words_of_modulus, key_number, first_factor, words_of, place_of}
+use Rattle.factor_table.specs.KeyPlaces.{IsEnd, IsKeyWithin, ends, flags, end_number, flag_number, words_of_modulus, key_number, first_factor, words_of, word_place}
 use Rattle.factor_table.proofs.Digits.{digits, digit_below}
 use Rattle.factor_table.proofs.Strides.{end_below, flag_below}
 
@@ -150,19 +150,19 @@ key_below s key w =
     let t = part_below (kinds s) (kind_of key) (number_in_kind s key) (kind_below s key w) in
     let e = in_kind s key in omega arith
 
-pub place_from : (s : Sizes) (key : Key) (m : ℕ) → first_factor s ≤ place_of s key m
-unfolding place_of
+pub place_from : (s : Sizes) (key : Key) (m : ℕ) → first_factor s ≤ word_place s key m
+unfolding word_place
 place_from s key m = omega arith
 
-pub place_below : (s : Sizes) (key : Key) (m : ℕ) → IsKeyWithin s key → m < s.moduli → place_of s key m < words_of s
-unfolding place_of words_of
+pub place_below : (s : Sizes) (key : Key) (m : ℕ) → IsKeyWithin s key → m < s.moduli → word_place s key m < words_of s
+unfolding word_place words_of
 place_below s key m w lt =
     let d = digit_below m (key_number s key) s.moduli (words_of_modulus s) lt (key_below s key w) in omega arith
 
 -- no two keys and moduli have one place
-pub one_to_one : (s : Sizes) (k l : Key) (m n : ℕ) → IsKeyWithin s k → IsKeyWithin s l → place_of s k m ≡ place_of s l n
+pub one_to_one : (s : Sizes) (k l : Key) (m n : ℕ) → IsKeyWithin s k → IsKeyWithin s l → word_place s k m ≡ word_place s l n
     → (k ≡ l) × (m ≡ n)
-unfolding place_of
+unfolding word_place
 one_to_one s k l m n w v e =
     let d =
     digits m (key_number s k) n (key_number s l) (words_of_modulus s) (key_below s k w) (key_below s l v)

@@ -10,7 +10,7 @@ use Rattle.localisation.specs.ClassValue.{negated_inner_product}
 use Rattle.factor_table.specs.declared.key.Key.TheVariants.{Edge, Flag, Tangent, Pair, ClassEdge, ClassVertex, Tip}
 use Rattle.factor_table.specs.declared.layout.Sizes.{Sizes}
 use Rattle.factor_table.specs.declared.parameters.Parameters.{Parameters}
-use Rattle.factor_table.specs.KeyPlaces.{words_of_modulus, words_of, place_of}
+use Rattle.factor_table.specs.KeyPlaces.{words_of_modulus, words_of, word_place}
 use Rattle.factor_table.specs.Factors.{parameters, sizes_of, fraction_of, IsWordOf}
 
 -- ---- the greatest table
@@ -38,12 +38,12 @@ unfolding line words_of
 words_of_line = refl
 
 -- the edge from 0 to 1 of degree 2 is the fourth
-place_of_edge : place_of (sizes_of line) (Edge 0 1 2) 0 ≡ 6
-unfolding line place_of
+place_of_edge : word_place (sizes_of line) (Edge 0 1 2) 0 ≡ 6
+unfolding line word_place
 place_of_edge = refl
 
-place_of_last : place_of (sizes_of line) (ClassVertex 0 1 2) 0 ≡ 72
-unfolding line place_of
+place_of_last : word_place (sizes_of line) (ClassVertex 0 1 2) 0 ≡ 72
+unfolding line word_place
 place_of_last = refl
 
 word_of_edge : IsWordOf 101 (fraction_of line (Edge 0 1 2)) 39

@@ -24,8 +24,8 @@ abbrev pub sizes_of : Parameters → Sizes
 sizes_of p = record { colours = length p.setup; degree = p.degree; moduli = length p.moduli; classes = length p.classes }
 
 -- the modulus at an index
-abbrev pub modulus_at : Parameters → ℕ → ℕ
-modulus_at p index = slice_index p.moduli index
+abbrev pub modulus_in : Parameters → ℕ → ℕ
+modulus_in p index = slice_index p.moduli index
 
 -- the class at an index
 abbrev pub class_at : Parameters → ℕ → Class

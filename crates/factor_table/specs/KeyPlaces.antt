@@ -99,5 +99,5 @@ unfoldable pub words_of : Sizes → ℕ
 words_of s = first_factor s + s.moduli * words_of_modulus s
 
 -- the place of the word of a key for the modulus at an index
-unfoldable pub place_of : Sizes → Key → ℕ → ℕ
-place_of s key modulus = first_factor s + modulus * words_of_modulus s + key_number s key
+unfoldable pub word_place : Sizes → Key → ℕ → ℕ
+word_place s key modulus = first_factor s + modulus * words_of_modulus s + key_number s key

@@ -9,8 +9,8 @@ use Rattle.factor_table.specs.declared.parameters.Parameters.{Parameters}
 use Rattle.factor_table.specs.declared.table.Move.{Move}
 use Rattle.factor_table.specs.declared.table.Move.TheVariants.{Load, Fill, Split, Join}
 use Rattle.factor_table.specs.declared.table.View.{View}
-use Rattle.factor_table.specs.KeyPlaces.{first_factor, words_of, place_of}
-use Rattle.factor_table.specs.Factors.{parameters, sizes_of, modulus_at, fraction_of, IsKeyOf, IsWordOf}
+use Rattle.factor_table.specs.KeyPlaces.{first_factor, words_of, word_place}
+use Rattle.factor_table.specs.Factors.{parameters, sizes_of, modulus_in, fraction_of, IsKeyOf, IsWordOf}
 
 -- the weights modulo 2^64, and the moduli
 abbrev pub first_words : Parameters → List ℕ
@@ -22,8 +22,8 @@ pub record IsFactorAt (p : Parameters) (place word : ℕ) : Type 0 where
   pub modulus : ℕ
   pub is_key : IsKeyOf p key
   pub is_modulus : modulus < length p.moduli
-  pub its_place : place_of (sizes_of p) key modulus ≡ place
-  pub its_word : IsWordOf (modulus_at p modulus) (fraction_of p key) word
+  pub its_place : word_place (sizes_of p) key modulus ≡ place
+  pub its_word : IsWordOf (modulus_in p modulus) (fraction_of p key) word
 
 -- a place of a factor word that is filled
 abbrev pub IsFilledAt : Parameters → List ℕ → ℕ → Type 0

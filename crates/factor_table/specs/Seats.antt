@@ -8,8 +8,8 @@ use Rattle.factor_table.specs.declared.table.Move.{Move}
 use Rattle.factor_table.specs.declared.table.Move.TheVariants.{Load, Fill}
 use Rattle.factor_table.specs.declared.table.FactorTable.{FactorTable}
 use Rattle.factor_table.specs.declared.table.FactorSeat.{FactorSeat}
-use Rattle.factor_table.specs.KeyPlaces.{place_of}
-use Rattle.factor_table.specs.Factors.{sizes_of, modulus_at, fraction_of}
+use Rattle.factor_table.specs.KeyPlaces.{word_place}
+use Rattle.factor_table.specs.Factors.{sizes_of, modulus_in, fraction_of}
 
 -- what the factors of the table are of, which no call changes
 abbrev pub parameters_of : FactorTable → Parameters
@@ -21,7 +21,7 @@ word_count t = t.table.shared.table_id.words
 
 -- the place of the word of a key for the modulus at an index
 abbrev pub place_in : FactorTable → Key → ℕ → ℕ
-place_in t key modulus = place_of (sizes_of (parameters_of t)) key modulus
+place_in t key modulus = word_place (sizes_of (parameters_of t)) key modulus
 
 -- the seat is one of this table
 abbrev pub IsSeatOf : FactorSeat → FactorTable → Type 0
@@ -38,7 +38,7 @@ Knows s t key modulus = Contains (known_of s) (place_in t key modulus)
 -- the answer gives the residue of the factor of a key for the modulus at an index
 abbrev pub IsFactorIn : FactorTable → Key → ℕ → Result ℕ NoUnit → Type 0
 IsFactorIn t key modulus answer =
-    GivesResidue (modulus_at (parameters_of t) modulus) (fraction_of (parameters_of t) key) answer
+    GivesResidue (modulus_in (parameters_of t) modulus) (fraction_of (parameters_of t) key) answer
 
 -- the steps that the seat made, in their order
 abbrev pub moves_of : FactorSeat → List Move

@@ -3,7 +3,7 @@
 ghost use Rattle.std.specs.Prelude.{◌≡◌, ℕ, ◌+◌, ◌-◌, ◌*◌, ◌<◌, ◌≤◌, ◌^◌};
 ghost use Rattle.factor_table.specs.declared.key.Key.{Key};
 ghost use Rattle.factor_table.specs.declared.layout.Sizes.{Sizes};
-ghost use Rattle.factor_table.specs.KeyPlaces.{AreWithinLimits, AreStrides, IsEnd, IsKeyWithin, ends, flags, end_number, flag_number, first_factor, words_of_modulus, words_of, place_of};
+ghost use Rattle.factor_table.specs.KeyPlaces.{AreWithinLimits, AreStrides, IsEnd, IsKeyWithin, ends, flags, end_number, flag_number, first_factor, words_of_modulus, words_of, word_place};
 
 use crate::key::Key;
 
@@ -93,10 +93,10 @@ impl Layout {
     pub fn place(&self, key: Key, modulus: u8) -> usize
         requires key { IsKeyWithin self.now.sizes key }
         requires modulus { modulus < self.now.sizes.moduli }
-        ensures value { result ≡ place_of self.now.sizes key modulus }
+        ensures value { result ≡ word_place self.now.sizes key modulus }
         ensures within { (first_factor self.now.sizes ≤ result) × (result < words_of self.now.sizes) }
         ensures one_to_one { (other : Key) (n : ℕ) → IsKeyWithin self.now.sizes other → n < self.now.sizes.moduli
-            → place_of self.now.sizes other n ≡ result → (other ≡ key) × (n ≡ modulus) }
+            → word_place self.now.sizes other n ≡ result → (other ≡ key) × (n ≡ modulus) }
     {
         self.place_by_kind(key, modulus)
     }
@@ -105,7 +105,7 @@ impl Layout {
     fn place_by_kind(&self, key: Key, modulus: u8) -> usize
         requires key { IsKeyWithin self.now.sizes key }
         requires modulus { modulus < self.now.sizes.moduli }
-        ensures { result ≡ place_of self.now.sizes key modulus }
+        ensures { result ≡ word_place self.now.sizes key modulus }
     {
         match key {
             Key::Edge { i, j, a } => self.edge(i, j, a, modulus),
@@ -120,11 +120,11 @@ impl Layout {
 
     /// The place of `Key::Edge`.
     #[inline]
-    #[tactic(auto, unfolding(crate::specs::KeyPlaces::place_of))]
+    #[tactic(auto, unfolding(crate::specs::KeyPlaces::word_place))]
     pub fn edge(&self, i: u8, j: u8, a: u8, modulus: u8) -> usize
         requires key { IsKeyWithin self.now.sizes (Key.Edge i j a) }
         requires modulus { modulus < self.now.sizes.moduli }
-        ensures { result ≡ place_of self.now.sizes (Key.Edge i j a) modulus }
+        ensures { result ≡ word_place self.now.sizes (Key.Edge i j a) modulus }
     {
         let number = self.flag_number(i, j, a);
         self.at(self.strides.first_edge, number, modulus)
@@ -132,11 +132,11 @@ impl Layout {
 
     /// The place of `Key::Flag`.
     #[inline]
-    #[tactic(auto, unfolding(crate::specs::KeyPlaces::place_of))]
+    #[tactic(auto, unfolding(crate::specs::KeyPlaces::word_place))]
     pub fn flag(&self, c: u8, u: u8, a: u8, modulus: u8) -> usize
         requires key { IsKeyWithin self.now.sizes (Key.Flag c u a) }
         requires modulus { modulus < self.now.sizes.moduli }
-        ensures { result ≡ place_of self.now.sizes (Key.Flag c u a) modulus }
+        ensures { result ≡ word_place self.now.sizes (Key.Flag c u a) modulus }
     {
         let number = self.flag_number(c, u, a);
         self.at(self.strides.first_flag, number, modulus)
@@ -144,11 +144,11 @@ impl Layout {
 
     /// The place of `Key::Tip`.
     #[inline]
-    #[tactic(auto, unfolding(crate::specs::KeyPlaces::place_of))]
+    #[tactic(auto, unfolding(crate::specs::KeyPlaces::word_place))]
     pub fn tip(&self, c: u8, u: u8, a: u8, modulus: u8) -> usize
         requires key { IsKeyWithin self.now.sizes (Key.Tip c u a) }
         requires modulus { modulus < self.now.sizes.moduli }
-        ensures { result ≡ place_of self.now.sizes (Key.Tip c u a) modulus }
+        ensures { result ≡ word_place self.now.sizes (Key.Tip c u a) modulus }
     {
         let number = self.flag_number(c, u, a);
         self.at(self.strides.first_tip, number, modulus)
@@ -156,22 +156,22 @@ impl Layout {
 
     /// The place of `Key::Tangent`.
     #[inline]
-    #[tactic(auto, unfolding(crate::specs::KeyPlaces::place_of))]
+    #[tactic(auto, unfolding(crate::specs::KeyPlaces::word_place))]
     pub fn tangent(&self, c: u8, modulus: u8) -> usize
         requires key { IsKeyWithin self.now.sizes (Key.Tangent c) }
         requires modulus { modulus < self.now.sizes.moduli }
-        ensures { result ≡ place_of self.now.sizes (Key.Tangent c) modulus }
+        ensures { result ≡ word_place self.now.sizes (Key.Tangent c) modulus }
     {
         self.at(self.strides.first_tangent, c as usize, modulus)
     }
 
     /// The place of `Key::Pair`.
     #[inline]
-    #[tactic(auto, unfolding(crate::specs::KeyPlaces::place_of))]
+    #[tactic(auto, unfolding(crate::specs::KeyPlaces::word_place))]
     pub fn pair(&self, c: u8, c1: u8, a1: u8, c2: u8, a2: u8, modulus: u8) -> usize
         requires key { IsKeyWithin self.now.sizes (Key.Pair c c1 a1 c2 a2) }
         requires modulus { modulus < self.now.sizes.moduli }
-        ensures { result ≡ place_of self.now.sizes (Key.Pair c c1 a1 c2 a2) modulus }
+        ensures { result ≡ word_place self.now.sizes (Key.Pair c c1 a1 c2 a2) modulus }
     {
         let second = self.end_number(c2, a2);
         let number = joined(self.flag_number(c, c1, a1), self.strides.ends, second);
@@ -180,11 +180,11 @@ impl Layout {
 
     /// The place of `Key::ClassEdge`.
     #[inline]
-    #[tactic(auto, unfolding(crate::specs::KeyPlaces::place_of))]
+    #[tactic(auto, unfolding(crate::specs::KeyPlaces::word_place))]
     pub fn class_edge(&self, class: u16, i: u8, j: u8, a: u8, modulus: u8) -> usize
         requires key { IsKeyWithin self.now.sizes (Key.ClassEdge class i j a) }
         requires modulus { modulus < self.now.sizes.moduli }
-        ensures { result ≡ place_of self.now.sizes (Key.ClassEdge class i j a) modulus }
+        ensures { result ≡ word_place self.now.sizes (Key.ClassEdge class i j a) modulus }
     {
         let flag = self.flag_number(i, j, a);
         let number = joined(class as usize, self.strides.flags, flag);
@@ -193,11 +193,11 @@ impl Layout {
 
     /// The place of `Key::ClassVertex`.
     #[inline]
-    #[tactic(auto, unfolding(crate::specs::KeyPlaces::place_of))]
+    #[tactic(auto, unfolding(crate::specs::KeyPlaces::word_place))]
     pub fn class_vertex(&self, class: u16, c: u8, s: u8, modulus: u8) -> usize
         requires key { IsKeyWithin self.now.sizes (Key.ClassVertex class c s) }
         requires modulus { modulus < self.now.sizes.moduli }
-        ensures { result ≡ place_of self.now.sizes (Key.ClassVertex class c s) modulus }
+        ensures { result ≡ word_place self.now.sizes (Key.ClassVertex class c s) modulus }
     {
         let end = self.end_number(c, s);
         let number = joined(class as usize, self.strides.ends, end);

@@ -13,7 +13,7 @@ ghost use Rattle.localisation.specs.ClassValue.{class_edge, class_vertex};
 ghost use Rattle.vertex_factor.specs.Ends.{end, flag_fraction};
 ghost use Rattle.factor_table.specs.declared.key.Key.{Key};
 ghost use Rattle.factor_table.specs.declared.table.Move.{Move};
-ghost use Rattle.factor_table.specs.Factors.{modulus_at, class_at, IsKeyOf, tip_fraction, IsWordOf, word_of};
+ghost use Rattle.factor_table.specs.Factors.{modulus_in, class_at, IsKeyOf, tip_fraction, IsWordOf, word_of};
 ghost use Rattle.factor_table.specs.Seats.{parameters_of, IsSeatOf, IsFactorIn, known_of, moves_of, place_in, LooksOnce};
 
 use crate::key::Key;
@@ -54,7 +54,7 @@ impl FactorTable {
         requires seat { IsSeatOf seat.old self.now }
         requires key { IsKeyOf (parameters_of self.now) (Key.Edge i j a) }
         requires modulus { modulus < length (parameters_of self.now).moduli }
-        ensures value { GivesResidue (modulus_at (parameters_of self.now) modulus)
+        ensures value { GivesResidue (modulus_in (parameters_of self.now) modulus)
             (edge_fraction (parameters_of self.now).setup i j a) result }
         ensures seat { IsSeatOf seat.new self.now }
         ensures known { known_of seat.new
@@ -82,7 +82,7 @@ impl FactorTable {
         requires seat { IsSeatOf seat.old self.now }
         requires key { IsKeyOf (parameters_of self.now) (Key.Flag c u a) }
         requires modulus { modulus < length (parameters_of self.now).moduli }
-        ensures value { GivesResidue (modulus_at (parameters_of self.now) modulus)
+        ensures value { GivesResidue (modulus_in (parameters_of self.now) modulus)
             (flag_fraction (parameters_of self.now).setup c u a) result }
         ensures seat { IsSeatOf seat.new self.now }
         ensures known { known_of seat.new
@@ -110,7 +110,7 @@ impl FactorTable {
         requires seat { IsSeatOf seat.old self.now }
         requires key { IsKeyOf (parameters_of self.now) (Key.Tip c u a) }
         requires modulus { modulus < length (parameters_of self.now).moduli }
-        ensures value { GivesResidue (modulus_at (parameters_of self.now) modulus)
+        ensures value { GivesResidue (modulus_in (parameters_of self.now) modulus)
             (tip_fraction (parameters_of self.now).setup c u a) result }
         ensures seat { IsSeatOf seat.new self.now }
         ensures known { known_of seat.new
@@ -140,7 +140,7 @@ impl FactorTable {
         requires seat { IsSeatOf seat.old self.now }
         requires key { IsKeyOf (parameters_of self.now) (Key.Pair c c1 a1 c2 a2) }
         requires modulus { modulus < length (parameters_of self.now).moduli }
-        ensures value { GivesResidue (modulus_at (parameters_of self.now) modulus)
+        ensures value { GivesResidue (modulus_in (parameters_of self.now) modulus)
             (plain_vertex (parameters_of self.now).setup c (end c1 a1 ∷ end c2 a2 ∷ []) 0) result }
         ensures seat { IsSeatOf seat.new self.now }
         ensures known { known_of seat.new
@@ -169,7 +169,7 @@ impl FactorTable {
         requires seat { IsSeatOf seat.old self.now }
         requires key { IsKeyOf (parameters_of self.now) (Key.ClassEdge class i j a) }
         requires modulus { modulus < length (parameters_of self.now).moduli }
-        ensures value { GivesResidue (modulus_at (parameters_of self.now) modulus)
+        ensures value { GivesResidue (modulus_in (parameters_of self.now) modulus)
             (class_edge (parameters_of self.now).setup (class_at (parameters_of self.now) class) i j a) result }
         ensures seat { IsSeatOf seat.new self.now }
         ensures known { known_of seat.new
@@ -196,7 +196,7 @@ impl FactorTable {
         requires seat { IsSeatOf seat.old self.now }
         requires key { IsKeyOf (parameters_of self.now) (Key.ClassVertex class c s) }
         requires modulus { modulus < length (parameters_of self.now).moduli }
-        ensures value { GivesResidue (modulus_at (parameters_of self.now) modulus)
+        ensures value { GivesResidue (modulus_in (parameters_of self.now) modulus)
             (class_vertex (parameters_of self.now).setup (class_at (parameters_of self.now) class) c s) result }
         ensures seat { IsSeatOf seat.new self.now }
         ensures known { known_of seat.new
@@ -214,7 +214,7 @@ impl FactorTable {
         requires seat { IsSeatOf seat.old self.now }
         requires key { IsKeyOf (parameters_of self.now) (Key.Tangent c) }
         requires modulus { modulus < length (parameters_of self.now).moduli }
-        ensures value { IsResidue (modulus_at (parameters_of self.now) modulus)
+        ensures value { IsResidue (modulus_in (parameters_of self.now) modulus)
             (fraction (tangent_product (parameters_of self.now).setup c) (pos 1)) result }
         ensures seat { IsSeatOf seat.new self.now }
         ensures known { known_of seat.new

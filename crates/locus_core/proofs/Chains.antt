@@ -10,7 +10,7 @@ use Rattle.report.specs.Texts.{done_text, no_inverse_text}
 use Rattle.rounds.specs.Outcomes.{sum_of, IsTrueSum}
 use Rattle.command_line.specs.Requests.{Request, Sum, run, resume, make}
 use Rattle.locus_core.specs.Words.{AsksFor}
-use Rattle.locus_core.specs.Outside.{Takes}
+use Rattle.locus_core.specs.Outside.{TakesText}
 use Rattle.locus_core.specs.Begins.{Beginning, Begins, IsTrueBeginning}
 use Rattle.locus_core.specs.Comes.{state_at}
 use Rattle.locus_core.specs.Ends.{Run, Ends}
@@ -121,7 +121,7 @@ alone r n e source p chain reads = record {
           agree = s.agree;
           found = s.found t.truth;
           status = s.status;
-          out = subst (λ h. Takes r.out (h ++ done_text s.beginning.sum.problem s.residues s.fractions)) t.plain s.out;
+          out = subst (λ h. TakesText r.out (h ++ done_text s.beginning.sum.problem s.residues s.fractions)) t.plain s.out;
         })
 
     by_refusal : n ≡ 4 → NamesLeastOfAll p r
@@ -132,7 +132,7 @@ alone r n e source p chain reads = record {
           number = s.number;
           index = s.index;
           is = s.of_all t.truth;
-          out = subst (λ h. Takes r.out (h ++ no_inverse_text s.beginning.sum.problem s.number s.index)) t.plain s.out;
+          out = subst (λ h. TakesText r.out (h ++ no_inverse_text s.beginning.sum.problem s.number s.index)) t.plain s.out;
         })
 
     by_pause : n ≡ 5 → PausesTruly source p r

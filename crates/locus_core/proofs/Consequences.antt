@@ -13,7 +13,7 @@ use Rattle.rounds.specs.declared.progress.Outcome.{Outcome}
 use Rattle.command_line.specs.Requests.{Request, Sum, run, resume, make}
 use Rattle.checkpoint.specs.Texts.{IsTextOf}
 use Rattle.locus_core.specs.Words.{AsksFor, AskNothing}
-use Rattle.locus_core.specs.Outside.{Change, FilesState, StopperState, Holds, Takes}
+use Rattle.locus_core.specs.Outside.{Change, FilesState, StopperState, Holds, TakesText}
 use Rattle.locus_core.specs.Begins.{Beginning, Begins}
 use Rattle.locus_core.specs.Comes.{Comes, summed, made, Sums, IsAnswer, done, paused, no_inverse, file_of_request}
 use Rattle.locus_core.specs.Ends.{Run, Ends, printed, words_refused, problem_refused, read_fault, write_fault, checkpoint_refused, want_of_memory}
@@ -227,7 +227,7 @@ makes r n (printed p) number asks =
     inl (by p.text (same_request r p.request (make number) p.words asks) (came p.comes) p.out)
   where
     by : {request : Request} {m : ℕ} (text : List ℕ) → request ≡ make number → CameBySum r.files r.stopper r.shares request m text ⊎ CameByMake request m text
-        → Takes r.out text → (m ≡ 0) × Makes r number
+        → TakesText r.out text → (m ≡ 0) × Makes r number
     by text same (inr c) out =
         (c.zero, record { text = text; reads = c.reads ∙ ap (λ k. Ok (generated_problem k)) (same_number c.number number (sym c.asked ∙ same)); out = out })
       where

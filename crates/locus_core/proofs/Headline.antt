@@ -19,7 +19,7 @@ use Rattle.rounds.specs.declared.progress.Outcome.TheVariants.{Done, Paused}
 use Rattle.rounds.proofs.Running.{keeps_truth}
 use Rattle.command_line.specs.Requests.{Request, make}
 use Rattle.locus_core.specs.Words.{AsksFor}
-use Rattle.locus_core.specs.Outside.{Change, FilesState, StopperState, Unchanged, Takes, BreaksOff}
+use Rattle.locus_core.specs.Outside.{Change, FilesState, StopperState, Unchanged, TakesText, BreaksOff}
 use Rattle.locus_core.specs.Begins.{Beginning, Begins, by_run, by_resume, by_soak, IsTrueBeginning}
 use Rattle.locus_core.specs.Comes.{Comes, summed, made, Sums, IsAnswer, done, paused, no_inverse}
 use Rattle.locus_core.specs.Ends.{Run, Printed, WordsRefused, ProblemRefused, CheckpointRefused, ReadFault, WriteFault, WantOfMemory, Ends, printed, words_refused, problem_refused, read_fault, write_fault, checkpoint_refused, want_of_memory}
@@ -46,7 +46,7 @@ reads_source files _ _ source (by_soak number workers) is = absurd (let f : ⊥ 
 
 -- ---- what was printed
 sums_printed : (r : Run) (request : Request) (b : Beginning) (o : Outcome) (n : ℕ) (text : List ℕ) → AsksFor r.words request → Begins r.files request b
-    → Sums b r.stopper r.shares o → IsAnswer b o n text → Takes r.out text → IsDoneStatus n → PrintsSums r n
+    → Sums b r.stopper r.shares o → IsAnswer b o n text → TakesText r.out text → IsDoneStatus n → PrintsSums r n
 sums_printed r request b _ _ _ asks begins sums (done residues fractions are) out is =
     let d : IsDone b.sum b.plan.budget sums.progress.rounds residues = sums.progress.outcome in
     let truth = keeps_truth b.sum b.plan.budget sums.progress.rounds (Done residues) sums.rules (within r.files request b begins) sums.progress.outcome in
@@ -87,7 +87,7 @@ seven_tells n (inr (inr (inr (inr k)))) e = omega (arith, k, e)
 
 -- at the status of a printed text, the run ended so
 pub as_printed : {P : Type 0} (r : Run) (n : ℕ) → IsPrintedStatus n → Ends r n
-    → ((request : Request) (text : List ℕ) → AsksFor r.words request → Comes r.files r.stopper r.shares request n text → Takes r.out text → P) → P
+    → ((request : Request) (text : List ℕ) → AsksFor r.words request → Comes r.files r.stopper r.shares request n text → TakesText r.out text → P) → P
 as_printed r n is (printed w) f = f w.request w.text w.words w.comes w.out
 as_printed r n is (words_refused e w) f = absurd (never n 2 is e refl)
 as_printed r n is (problem_refused e w) f = absurd (never n 3 is e refl)
@@ -99,7 +99,7 @@ as_printed r n is (want_of_memory e w) f = absurd (never n 9 is e refl)
 pub sums : (r : Run) (n : ℕ) → Ends r n → PrintsItsSums r n
 sums r n e not_making is = as_printed r n (inl is) e (λ request text asks comes out. by request text asks out (came comes))
   where
-    by : (request : Request) (text : List ℕ) → AsksFor r.words request → Takes r.out text
+    by : (request : Request) (text : List ℕ) → AsksFor r.words request → TakesText r.out text
         → CameBySum r.files r.stopper r.shares request n text ⊎ CameByMake request n text → PrintsSums r n
     by request text asks out (inl c) = sums_printed r request c.beginning c.outcome n text asks c.begins c.sums c.answer out is
     by request text asks out (inr c) = absurd (not_making (c.number, subst (AsksFor r.words) c.asked asks))
@@ -146,7 +146,7 @@ from_first s number none l = record {
 }
 
 least_printed : (r : Run) (request : Request) (b : Beginning) (o : Outcome) (n : ℕ) (text : List ℕ) → AsksFor r.words request → Begins r.files request b
-    → Sums b r.stopper r.shares o → IsAnswer b o n text → Takes r.out text → n ≡ 4 → NamesLeast r
+    → Sums b r.stopper r.shares o → IsAnswer b o n text → TakesText r.out text → n ≡ 4 → NamesLeast r
 least_printed r request b _ _ _ asks begins sums (no_inverse number index) out is =
     let h : IsNoInverse b.sum b.plan.budget sums.progress.rounds number index = sums.progress.outcome in
     let least = least_of_rounds b.sum b.plan.budget sums.progress.rounds number index h in
@@ -173,7 +173,7 @@ least_printed r request b _ _ _ asks begins sums (done residues fractions are) o
 pub refusal : (r : Run) (n : ℕ) → Ends r n → n ≡ 4 → NamesLeast r
 refusal r n e is = as_printed r n (inr (inl is)) e (λ request text asks comes out. by request text asks out (came comes))
   where
-    by : (request : Request) (text : List ℕ) → AsksFor r.words request → Takes r.out text
+    by : (request : Request) (text : List ℕ) → AsksFor r.words request → TakesText r.out text
         → CameBySum r.files r.stopper r.shares request n text ⊎ CameByMake request n text → NamesLeast r
     by request text asks out (inl c) = least_printed r request c.beginning c.outcome n text asks c.begins c.sums c.answer out is
     by request text asks out (inr c) = let zero = c.zero in absurd (omega (arith, zero, is))
@@ -183,7 +183,7 @@ before_end : (b : Beginning) (next : ℕ) → next < b.sum.next + b.plan.budget 
 before_end b next early left = omega (arith, early, left)
 
 pause_printed : (r : Run) (request : Request) (b : Beginning) (o : Outcome) (n : ℕ) (text : List ℕ) → AsksFor r.words request → Begins r.files request b
-    → Sums b r.stopper r.shares o → IsAnswer b o n text → Takes r.out text → n ≡ 5 → PrintsCheckpoint r
+    → Sums b r.stopper r.shares o → IsAnswer b o n text → TakesText r.out text → n ≡ 5 → PrintsCheckpoint r
 pause_printed r request b _ _ _ asks begins sums (paused source next residues same) out is =
     let h : IsPaused b.sum b.plan.budget sums.progress.rounds next residues = sums.progress.outcome in
     let left = h.left in
@@ -224,7 +224,7 @@ pause_printed r request b _ _ _ asks begins sums (done residues fractions are) o
 pub pause : (r : Run) (n : ℕ) → Ends r n → n ≡ 5 → PrintsCheckpoint r
 pause r n e is = as_printed r n (inr (inr is)) e (λ request text asks comes out. by request text asks out (came comes))
   where
-    by : (request : Request) (text : List ℕ) → AsksFor r.words request → Takes r.out text
+    by : (request : Request) (text : List ℕ) → AsksFor r.words request → TakesText r.out text
         → CameBySum r.files r.stopper r.shares request n text ⊎ CameByMake request n text → PrintsCheckpoint r
     by request text asks out (inl c) = pause_printed r request c.beginning c.outcome n text asks c.begins c.sums c.answer out is
     by request text asks out (inr c) = let zero = c.zero in absurd (omega (arith, zero, is))
@@ -232,7 +232,7 @@ pause r n e is = as_printed r n (inr (inr is)) e (λ request text asks comes out
 -- ---- shares
 by_sum : (r : Run) (n : ℕ) (request : Request) {m : ℕ} {text : List ℕ} → AsksFor r.words request
     → CameBySum r.files r.stopper r.shares request m text ⊎ CameByMake request m text
-    → ((n ≡ m) × Takes r.out text) ⊎ ((n ≡ 7) × BreaksOff r.out text) → IsMaking r ⊎ SharesBlocks r n ⊎ IsSilentStatus n
+    → ((n ≡ m) × TakesText r.out text) ⊎ ((n ≡ 7) × BreaksOff r.out text) → IsMaking r ⊎ SharesBlocks r n ⊎ IsSilentStatus n
 by_sum r n request {m} {text} asks (inl c) out = inr (inl (record {
   beginning = c.beginning;
   outcome = c.outcome;

@@ -20,13 +20,13 @@ use Rattle.report.specs.Outcome.{LacksInverse}
 use Rattle.report.specs.Fractions.{AreFractions, IsOnlyFraction}
 use Rattle.report.specs.Report.{done_status}
 use Rattle.report.specs.Texts.{done_text, no_inverse_text}
-use Rattle.locus_core.specs.Outside.{Takes}
+use Rattle.locus_core.specs.Outside.{TakesText}
 use Rattle.locus_core.specs.Ends.{Run}
 use Rattle.locus_core.specs.Chains.{HasPrinted, PrintsKontsevichSums, NamesLeastOfAll}
 use Rattle.locus_core.proofs.Decided.{tree_bad}
 
 -- what was printed is what the sink took
-pub same_text : (r : Run) (printed text : List ℕ) → HasPrinted r printed → Takes r.out text → text ≡ printed
+pub same_text : (r : Run) (printed text : List ℕ) → HasPrinted r printed → TakesText r.out text → text ≡ printed
 same_text r printed text h t =
     let grown : Some (h.earlier ++ printed) ≡ Some (h.earlier ++ text) =
     sym h.after ∙ t.appended ∙ ap (λ w. option_map (λ b. b ++ text) w) h.before in
@@ -92,12 +92,12 @@ abbrev pub Concludes : ProblemView → Run → ℕ → Type 0
 Concludes p r n = PrintsKontsevichSums p r n ⊎ ((n ≡ 4) × NamesLeastOfAll p r)
 
 pub same_end : (p : ProblemView) (r other : Run) (n m : ℕ) (text : List ℕ) → Concludes p r n → Concludes p other m → HasPrinted other text
-    → (n ≡ m) × Takes r.out text
+    → (n ≡ m) × TakesText r.out text
 same_end p r other n m text (inl a) (inl b) printed =
     let xs = residues_once p a.residues b.residues a.are_residues a.sums b.are_residues b.sums in
     let fs = fractions_once p a.residues a.fractions b.fractions a.agree (subst (λ x. AreFractions p x b.fractions) (sym xs) b.agree) in (
       a.status ∙ ap done_status fs ∙ sym b.status,
-      subst (Takes r.out)
+      subst (TakesText r.out)
           (ap₂ (done_text p) xs fs ∙ same_text other text (done_text p b.residues b.fractions) printed b.out) a.out,
     )
 same_end p r other n m text (inr (four, a)) (inr (also, b)) printed =
@@ -106,7 +106,7 @@ same_end p r other n m text (inr (four, a)) (inr (also, b)) printed =
     first_once (is_bad_modulo p a.number) p.moduli a.index b.index a.is.first
     (subst (λ k. IsFirstBad (is_bad_modulo p k) p.moduli b.index) (sym numbers) b.is.first) in (
       four ∙ sym also,
-      subst (Takes r.out)
+      subst (TakesText r.out)
           (ap₂ (no_inverse_text p) numbers indices ∙ same_text other text (no_inverse_text p b.number b.index) printed b.out) a.out,
     )
 same_end p r other n m text (inl a) (inr (four, b)) printed = absurd (a.none_bad (some_bad p b.number b.index b.is))

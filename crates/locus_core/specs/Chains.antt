@@ -13,7 +13,7 @@ use Rattle.report.specs.Report.{done_status}
 use Rattle.report.specs.Texts.{done_text, no_inverse_text}
 use Rattle.command_line.specs.Requests.{Request, Sum, run, resume}
 use Rattle.locus_core.specs.Words.{AsksFor}
-use Rattle.locus_core.specs.Outside.{Takes}
+use Rattle.locus_core.specs.Outside.{TakesText}
 use Rattle.locus_core.specs.Ends.{Run, Ends}
 use Rattle.locus_core.specs.Headline.{IsDoneStatus}
 
@@ -49,14 +49,14 @@ pub record PrintsKontsevichSums (p : ProblemView) (r : Run) (n : ℕ) : Type 0 w
   pub agree : AreFractions p residues fractions
   pub found : FindSums p fractions
   pub status : n ≡ done_status fractions
-  pub out : Takes r.out (done_text p residues fractions)
+  pub out : TakesText r.out (done_text p residues fractions)
 
 -- The least number of a bad tree among all decorated trees was printed, with the first modulus for which it is bad.
 pub record NamesLeastOfAll (p : ProblemView) (r : Run) : Type 0 where
   pub number : ℕ
   pub index : ℕ
   pub is : LacksInverse p number index
-  pub out : Takes r.out (no_inverse_text p number index)
+  pub out : TakesText r.out (no_inverse_text p number index)
 
 -- The checkpoint of a true state of the source was printed.
 pub record PausesTruly (source : List ℕ) (p : ProblemView) (r : Run) : Type 0 where
@@ -65,7 +65,7 @@ pub record PausesTruly (source : List ℕ) (p : ProblemView) (r : Run) : Type 0 
   pub same_problem : state.problem ≡ p
   pub is_state : IsState state
   pub truth : IsTrueState state
-  pub out : Takes r.out (text_in 2 state)
+  pub out : TakesText r.out (text_in 2 state)
 
 -- a chain is at its end: its sums are printed, or the least bad tree is
 abbrev pub IsAtEnd : ℕ → Type 0
@@ -74,7 +74,7 @@ IsAtEnd n = IsDoneStatus n ⊎ (n ≡ 4)
 -- the same status and the same text as another run that ended a chain of the same source, whatever that chain was
 abbrev pub EndsAsAnother : List ℕ → Run → ℕ → Type 0
 EndsAsAnother source r n = (other : Run) (m : ℕ) (text : List ℕ) → IsChainOfRuns source other → Ends other m → IsAtEnd m
-    → HasPrinted other text → IsAtEnd n → (n ≡ m) × Takes r.out text
+    → HasPrinted other text → IsAtEnd n → (n ≡ m) × TakesText r.out text
 
 -- What a run of a chain comes to, whatever the runs before it were asked to do. No run of a chain is refused.
 pub record EndsChain (source : List ℕ) (p : ProblemView) (r : Run) (n : ℕ) : Type 0 where

@@ -8,7 +8,7 @@ use Rattle.command_words.specs.Words.{AreRefusedFirst}
 use Rattle.command_line.specs.Requests.{Request, Sum, run, resume}
 use Rattle.locus_core.specs.Words.{AsksFor, AskNothing}
 use Rattle.locus_core.specs.Texts.{refused_line, refused_checkpoint_line}
-use Rattle.locus_core.specs.Outside.{Change, Unchanged, FilesState, StopperState, SinkState, Holds, HasFaultAt, Takes, BreaksOff, Tells}
+use Rattle.locus_core.specs.Outside.{Change, Unchanged, FilesState, StopperState, SinkState, Holds, HasFaultAt, TakesText, BreaksOff, Tells}
 use Rattle.locus_core.specs.Comes.{Comes, file_of_request, MayHaveStopped}
 
 -- A run as it is seen from outside: its words, its files, the output, standard error and the stopper, and how many blocks
@@ -39,7 +39,7 @@ pub record Printed (run : Run) (status : ℕ) : Type 0 where
   pub words : AsksFor run.words request
   pub comes : Comes run.files run.stopper run.shares request status text
   pub files : Unchanged run.files
-  pub out : Takes run.out text
+  pub out : TakesText run.out text
   pub err : Unchanged run.err
 
 -- The words ask for nothing. A text is told, which is `words refused` if a word is refused at the first look.

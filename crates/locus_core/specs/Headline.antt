@@ -19,7 +19,7 @@ use Rattle.rounds.specs.declared.progress.Outcome.{Outcome}
 use Rattle.rounds.specs.Rounds.{budget_end}
 use Rattle.command_line.specs.Requests.{Request, Sum, run, resume, make}
 use Rattle.locus_core.specs.Words.{AsksFor}
-use Rattle.locus_core.specs.Outside.{Unchanged, HasStopped, Takes, BreaksOff}
+use Rattle.locus_core.specs.Outside.{Unchanged, HasStopped, TakesText, BreaksOff}
 use Rattle.locus_core.specs.Begins.{Beginning, Begins, IsTrueBeginning}
 use Rattle.locus_core.specs.Comes.{IsAnswer, file_of_request, stop_file_of, state_at}
 use Rattle.locus_core.specs.Ends.{Run, Printed, WordsRefused, ProblemRefused, CheckpointRefused, ReadFault, WriteFault, WantOfMemory}
@@ -96,7 +96,7 @@ IsDecided r n = ¬ Rose r.files.before.faults r.files.after.faults → ¬ Rose r
 pub record Makes (r : Run) (number : ℕ) : Type 0 where
   pub text : List ℕ
   pub reads : reading_of_any_length text ≡ Ok (generated_problem number)
-  pub out : Takes r.out text
+  pub out : TakesText r.out text
 
 -- `make` prints its problem, or the output counted a fault, or memory was refused
 abbrev pub MakesProblem : Run → ℕ → Type 0
@@ -139,7 +139,7 @@ pub record PrintsSums (r : Run) (n : ℕ) : Type 0 where
   pub truth : IsTrueBeginning beginning → AreKontsevichSums beginning.sum.problem residues
   pub found : IsTrueBeginning beginning → FindSums beginning.sum.problem fractions
   pub stopper : Unchanged r.stopper
-  pub out : Takes r.out (beginning.heading ++ done_text beginning.sum.problem residues fractions)
+  pub out : TakesText r.out (beginning.heading ++ done_text beginning.sum.problem residues fractions)
 
 -- the words ask for the text of a generated problem
 abbrev pub IsMaking : Run → Type 0
@@ -160,7 +160,7 @@ pub record NamesLeast (r : Run) : Type 0 where
   pub first : IsFirstBad (is_bad_modulo beginning.sum.problem number) beginning.sum.problem.moduli index
   pub of_all : IsTrueBeginning beginning → LacksInverse beginning.sum.problem number index
   pub stopper : Unchanged r.stopper
-  pub out : Takes r.out (beginning.heading ++ no_inverse_text beginning.sum.problem number index)
+  pub out : TakesText r.out (beginning.heading ++ no_inverse_text beginning.sum.problem number index)
 
 -- A checkpoint was printed, and nothing else: the text of a state of the same source, whose residues grew by those of
 -- exactly the numbers before its next one. True residues stay true. It stands after some rounds, where the budget ends, or
@@ -179,7 +179,7 @@ pub record PrintsCheckpoint (r : Run) : Type 0 where
   pub cause : ((next ≡ end_of beginning) × Unchanged r.stopper)
       ⊎ ((next < end_of beginning) × IsSome beginning.plan.stop_file
       × IfSome beginning.plan.stop_file (λ name. HasStopped r.stopper name))
-  pub out : Takes r.out (text_in 2 (state_at source beginning next residues))
+  pub out : TakesText r.out (text_in 2 (state_at source beginning next residues))
 
 -- The rounds that were run have an outcome, whose text was printed, or a prefix of it at status 7. Each worker has a share,
 -- and the shares add up to the blocks of these rounds.
@@ -191,7 +191,7 @@ pub record SharesBlocks (r : Run) (n : ℕ) : Type 0 where
   pub begun : HasBegun r beginning
   pub progress : IsProgress beginning.sum beginning.plan.budget beginning.plan.workers (record { outcome = outcome; shares = r.shares })
   pub answer : IsAnswer beginning outcome status text
-  pub out : ((n ≡ status) × Takes r.out text) ⊎ ((n ≡ 7) × BreaksOff r.out text)
+  pub out : ((n ≡ status) × TakesText r.out text) ⊎ ((n ≡ 7) × BreaksOff r.out text)
 
 -- nothing goes to the output
 abbrev pub IsSilentStatus : ℕ → Type 0

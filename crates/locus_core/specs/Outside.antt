@@ -64,7 +64,7 @@ pub record HasFaultAt (files : Change FilesState) (name : List ℕ) : Type 0 whe
   pub content : files.after.content ≡ files.before.content
 
 -- the whole text was written, nothing of it is held back, and no fault was counted
-pub record Takes (sink : Change SinkState) (text : List ℕ) : Type 0 where
+pub record TakesText (sink : Change SinkState) (text : List ℕ) : Type 0 where
   pub appended : Appends sink.before.written sink.after.written text
   pub flushed : IsTrue sink.after.is_flushed
   pub faults : sink.after.faults ≡ sink.before.faults
@@ -76,4 +76,4 @@ pub record BreaksOff (sink : Change SinkState) (text : List ℕ) : Type 0 where
 
 -- the line was written, as far as the sink took it
 abbrev pub Tells : Change SinkState → List ℕ → Type 0
-Tells sink line = Takes sink line ⊎ BreaksOff sink line
+Tells sink line = TakesText sink line ⊎ BreaksOff sink line

@@ -15,7 +15,7 @@ use Rattle.report.specs.Texts.{no_inverse_text}
 use Rattle.report.specs.Statuses.{code_of}
 use Rattle.locus_core.specs.Words.{AsksFor, AskNothing}
 use Rattle.locus_core.specs.Texts.{refused_line, refused_checkpoint_line}
-use Rattle.locus_core.specs.Outside.{Change, Unchanged, FilesState, StopperState, SinkState, Holds, HasFaultAt, Takes, BreaksOff, Tells}
+use Rattle.locus_core.specs.Outside.{Change, Unchanged, FilesState, StopperState, SinkState, Holds, HasFaultAt, TakesText, BreaksOff, Tells}
 use Rattle.locus_core.specs.Begins.{Beginning}
 use Rattle.locus_core.specs.Comes.{Sums, IsAnswer, Comes, file_of_request, MayHaveStopped}
 use Rattle.locus_core.specs.declared.work.Printable.{Printable}
@@ -71,7 +71,7 @@ IsWork request files stopper (Err r) = WhyNot request files stopper r
 
 -- the text was written whole and its status is the answer, or status 7 tells that it was not
 pub data Prints (out err : Change SinkState) (status : ℕ) (text : List ℕ) (answer : ℕ) : Type 0 where
-  whole : answer ≡ status → Takes out text → Unchanged err → Prints out err status text answer
+  whole : answer ≡ status → TakesText out text → Unchanged err → Prints out err status text answer
   broken : answer ≡ 7 → BreaksOff out text → Tells err (codes "write fault\n") → Prints out err status text answer
 
 -- a refusal is told with its status, or want of memory with status 9

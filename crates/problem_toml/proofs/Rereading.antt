@@ -30,11 +30,11 @@ use Rattle.problem_toml.specs.Integrals.{integral_of, integrals_from, integrals_
 use Rattle.problem_toml.specs.Keys.{key_of}
 use Rattle.problem_toml.specs.Kinds.{word_of, parameter_key}
 use Rattle.problem_toml.specs.Moduli.{weights_of, modulus_of, moduli_from, coprime_to, coprime_from, bounds_fit}
-use Rattle.problem_toml.specs.Reading.{moduli_of, degrees_fit, all_degrees_fit, shape_fits, problem_with, problem_of, reading_of_any_length}
+use Rattle.problem_toml.specs.Reading.{moduli_of, degrees_fit, all_degrees_fit, shape_fits, problem_with, problem_in, reading_of_any_length}
 use Rattle.problem_toml.specs.Tables.{integers_in, integer_at, integers_at, tables_at, all_present, all_known, all_tables, tables_among, within, count_within}
 use Rattle.problem_toml.specs.Terms.{term_of, terms_from}
 use Rattle.problem_toml.specs.Versions.{version_of, list_key, needed, known}
-use Rattle.problem_toml.specs.Writing.{insert_member, integer_items, table_items, kind_for, parameter_of, with_parameter, power_table, term_table, integral_table, table_of}
+use Rattle.problem_toml.specs.Writing.{insert_member, integer_items, table_items, kind_for, parameter_of, with_parameter, power_table, term_table, integral_table, written_table}
 use Rattle.problem_toml.specs.declared.header.Header.{Header}
 use Rattle.problem_toml.specs.declared.name.Name.{Name}
 use Rattle.problem_toml.specs.declared.name.Name.TheVariants as key
@@ -202,26 +202,26 @@ written_as p = record {
 abbrev header_as : ProblemView → Header
 header_as p = record { rank = p.shape.rank; degree = p.shape.degree; marks = p.shape.marks; top_bound = p.top_bound; bottom_bound = p.bottom_bound }
 
-version_again : (p : ProblemView) → version_of (table_of p) ≡ Ok Two
-unfolding version_of integer_at table_of
+version_again : (p : ProblemView) → version_of (written_table p) ≡ Ok Two
+unfolding version_of integer_at written_table
 version_again p = refl
 
-present_again : (p : ProblemView) → all_present place.Top (needed Two) (table_of p) ≡ Ok tt
-unfolding table_of
+present_again : (p : ProblemView) → all_present place.Top (needed Two) (written_table p) ≡ Ok tt
+unfolding written_table
 present_again p = refl
 
-known_again : (p : ProblemView) → all_known place.Top (known Two) (table_of p) ≡ Ok tt
-unfolding table_of
+known_again : (p : ProblemView) → all_known place.Top (known Two) (written_table p) ≡ Ok tt
+unfolding written_table
 known_again p = refl
 
-written_again : (p : ProblemView) → written_of (table_of p) ≡ Ok (written_as p)
-unfolding written_of marks_in integer_at integers_at table_of
+written_again : (p : ProblemView) → written_of (written_table p) ≡ Ok (written_as p)
+unfolding written_of marks_in integer_at integers_at written_table
 written_again p =
     rw (integers_again place.Top key.Weights p.weights, integers_again place.Top key.Moduli (map pos p.moduli))
 
 integral_tables_again : (p : ProblemView)
-    → tables_at place.Top (list_key Two) (table_of p) ≡ Ok (map integral_table p.integrals)
-unfolding tables_at table_of
+    → tables_at place.Top (list_key Two) (written_table p) ≡ Ok (map integral_table p.integrals)
+unfolding tables_at written_table
 integral_tables_again p =
     rw (all_are_tables (map integral_table p.integrals), tables_again (map integral_table p.integrals))
 
@@ -296,8 +296,8 @@ unfolding problem_with
 with_again p is =
     rw (weights_again p is, all_moduli_again p is, all_integrals_again p is, all_degrees_again p.shape 0 p.integrals is.integrals, shape_again p.shape is.few_trees)
 
-problem_again : (p : ProblemView) → KeepsRules p → problem_of (table_of p) ≡ Ok p
-unfolding problem_of
+problem_again : (p : ProblemView) → KeepsRules p → problem_in (written_table p) ≡ Ok p
+unfolding problem_in
 problem_again p is =
     let long = length-map p.integrals integral_table in
     let some = is.some_integrals in
@@ -313,9 +313,9 @@ problem_again p is =
     )
 
 pub printed_reads : (p : ProblemView) (text : List ℕ) → KeepsRules p → IsUtf8 text
-    → parse_document text ≡ Some (table_of p) → reading_of_any_length text ≡ Ok p
+    → parse_document text ≡ Some (written_table p) → reading_of_any_length text ≡ Ok p
 unfolding reading_of_any_length
-printed_reads p text is utf8 parsed = rw (document_ok text (table_of p) utf8 parsed) (problem_again p is)
+printed_reads p text is utf8 parsed = rw (document_ok text (written_table p) utf8 parsed) (problem_again p is)
 
 -- ---- the table is not nested deeply
 record IsShallow (n : ℕ) (ms : Members) : Type 0 where
@@ -381,8 +381,8 @@ integral_shallow ts =
     let d = tables_depth term_table 2 ts term_shallow in
     shallow_insert 4 (key_of key.Term) (array (table_items (map term_table ts))) (omega arith) (no_depth 4)
 
-table_shallow : (p : ProblemView) → IsShallow 80 (table_of p)
-unfolding table_of
+table_shallow : (p : ProblemView) → IsShallow 80 (written_table p)
+unfolding written_table
 table_shallow p =
     let d = tables_depth integral_table 4 p.integrals integral_shallow in
     let weights = flat p.weights in
@@ -397,5 +397,5 @@ table_shallow p =
     (shallow_insert 80 (key_of key.Rank) (integer (pos p.shape.rank)) (omega arith)
     (shallow_insert 80 (key_of key.Version) (integer (pos 2)) (omega arith) (no_depth 80)))))))))
 
-pub table_depth : (p : ProblemView) → members_depth (table_of p) ≤ 80
+pub table_depth : (p : ProblemView) → members_depth (written_table p) ≤ 80
 table_depth p = (table_shallow p).most

@@ -6,7 +6,7 @@ use Rattle.classes.specs.declared.class.Power.{Power}
 use Rattle.problem_toml.specs.Keys.{key_of}
 use Rattle.problem_toml.specs.Kinds.{kind_of, parameter_key, class_of}
 use Rattle.problem_toml.specs.Steps.{◌>>=◌}
-use Rattle.problem_toml.specs.Tables.{present, all_known, text_of, integer_at, integer_or, within}
+use Rattle.problem_toml.specs.Tables.{present, all_known, string_of, integer_at, integer_or, within}
 use Rattle.problem_toml.specs.declared.error.ProblemError.{ProblemError}
 use Rattle.problem_toml.specs.declared.error.ProblemError.TheVariants.{UnknownKind}
 use Rattle.problem_toml.specs.declared.kind.Kind.{Kind}
@@ -20,7 +20,7 @@ use Rattle.problem_toml.specs.declared.version.Version.{Version}
 unfoldable pub kind_at : Version → ℕ → ℕ → Members → Result Kind ProblemError
 kind_at version i j doc = do
   d ← present (Class i j) key.Kind doc
-  text ← text_of (Class i j) key.Kind d
+  text ← string_of (Class i j) key.Kind d
   ok_or (kind_of version text) (UnknownKind i j)
 
 -- a parameter has to be there

@@ -71,8 +71,8 @@ problem_with version header written docs = do
   })
 
 -- the problem that a table stands for, or the first rule on it that is broken
-unfoldable pub problem_of : Members → Result ProblemView ProblemError
-problem_of doc = do
+unfoldable pub problem_in : Members → Result ProblemView ProblemError
+problem_in doc = do
   version ← version_of doc
   _ ← all_present Top (needed version) doc
   _ ← all_known Top (known version) doc
@@ -83,7 +83,7 @@ problem_of doc = do
 
 -- the same of a text of any length
 unfoldable pub reading_of_any_length : List ℕ → Result ProblemView ProblemError
-reading_of_any_length text = document_of text >>= problem_of
+reading_of_any_length text = document_of text >>= problem_in
 
 -- the problem that a text of at most 1,048,576 bytes stands for, or the first rule that it breaks
 unfoldable pub reading : List ℕ → Result ProblemView ProblemError

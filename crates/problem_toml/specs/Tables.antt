@@ -44,9 +44,9 @@ abbrev pub integer_of : Place → Name → Data → Result ℤ ProblemError
 integer_of place name (integer z) = Ok z
 integer_of place name _ = Err (WrongType place name)
 
-abbrev pub text_of : Place → Name → Data → Result (List ℕ) ProblemError
-text_of place name (string text) = Ok text
-text_of place name _ = Err (WrongType place name)
+abbrev pub string_of : Place → Name → Data → Result (List ℕ) ProblemError
+string_of place name (string text) = Ok text
+string_of place name _ = Err (WrongType place name)
 
 abbrev pub integers_in : Place → Name → Items → Result (List ℤ) ProblemError
 integers_in place name no_items = Ok []

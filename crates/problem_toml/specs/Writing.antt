@@ -70,8 +70,8 @@ unfoldable pub integral_table : List Term → Members
 integral_table terms = insert_member (key_of key.Term) (array (table_items (map term_table terms))) no_members
 
 -- a problem
-unfoldable pub table_of : ProblemView → Members
-table_of p =
+unfoldable pub written_table : ProblemView → Members
+written_table p =
     insert_member (key_of key.Integral) (array (table_items (map integral_table p.integrals)))
     (insert_member (key_of key.DenominatorBound) (integer (pos p.bottom_bound))
     (insert_member (key_of key.NumeratorBound) (integer (pos p.top_bound))

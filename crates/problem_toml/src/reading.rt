@@ -6,7 +6,7 @@ ghost use Rattle.toml.specs.View.{table_view, items_view};
 ghost use Rattle.residue.specs.Limits.{is_beyond_limit};
 ghost use Rattle.problem.specs.Problems.{view as problem_view};
 ghost use Rattle.problem_toml.specs.Header.{written_view, IsHeader};
-ghost use Rattle.problem_toml.specs.Reading.{document_of, problem_with, problem_of, reading_of_any_length, reading};
+ghost use Rattle.problem_toml.specs.Reading.{document_of, problem_with, problem_in, reading_of_any_length, reading};
 ghost use Rattle.problem_toml.specs.Steps.{Gives};
 ghost use Rattle.problem_toml.specs.Tables.{tables_among};
 ghost use Rattle.problem_toml.specs.Versions.{most_listed};
@@ -75,9 +75,9 @@ fn problem_with(
     }
 }
 
-#[tactic(auto, unfolding(crate::specs::Reading::problem_of))]
+#[tactic(auto, unfolding(crate::specs::Reading::problem_in))]
 fn problem(alloc: Global, table: &Table) -> Result<Problem, ProblemError>
-    ensures { Gives problem_view result (problem_of (table_view table.now)) }
+    ensures { Gives problem_view result (problem_in (table_view table.now)) }
 {
     let version = read_version(table)?;
     check_present(table, Place::Top, &version.needed())?;

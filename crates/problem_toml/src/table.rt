@@ -7,7 +7,7 @@ ghost use Rattle.toml.specs.Data.{get_member, as_table};
 ghost use Rattle.toml.specs.View.{view, table_view, items_view};
 ghost use Rattle.problem_toml.specs.Keys.{key_of};
 ghost use Rattle.problem_toml.specs.Steps.{Gives, GivesSurely, keep};
-ghost use Rattle.problem_toml.specs.Tables.{present, all_present, all_known, is_known, integer_of, text_of, integers_of, integers_in, tables_among, tables_of, integer_or, integer_at, integers_at, tables_at, within, count_within};
+ghost use Rattle.problem_toml.specs.Tables.{present, all_present, all_known, is_known, integer_of, string_of, integers_of, integers_in, tables_among, tables_of, integer_or, integer_at, integers_at, tables_at, within, count_within};
 
 use crate::error::ProblemError;
 use crate::name::Name;
@@ -45,7 +45,7 @@ pub fn as_integer(value: &Value, place: Place, name: Name) -> Result<i64, Proble
 
 /// The value as a text; refused if it is of another type.
 pub fn as_text(value: &Value, place: Place, name: Name) -> Result<&str, ProblemError>
-    ensures { GivesSurely (λ text. text.now) result (text_of place name (view value.now)) }
+    ensures { GivesSurely (λ text. text.now) result (string_of place name (view value.now)) }
 {
     match value.as_str() {
         Some(text) => Ok(text),

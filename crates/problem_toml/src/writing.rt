@@ -7,7 +7,7 @@ ghost use Rattle.problem.specs.Problems.{view as problem_view};
 ghost use Rattle.problem_toml.specs.Keys.{key_of};
 ghost use Rattle.problem_toml.specs.Kinds.{word_of, parameter_key};
 ghost use Rattle.problem_toml.specs.Reading.{reading_of_any_length};
-ghost use Rattle.problem_toml.specs.Writing.{insert_member, integer_items, table_items, kind_for, parameter_of, with_parameter, power_table, term_table, integral_table, table_of};
+ghost use Rattle.problem_toml.specs.Writing.{insert_member, integer_items, table_items, kind_for, parameter_of, with_parameter, power_table, term_table, integral_table, written_table};
 
 use crate::kind::Kind;
 use crate::name::Name;
@@ -230,9 +230,9 @@ fn moduli(alloc: Global, moduli: &[Modulus]) -> Result<Vec<i64>, NoMemory>
     Ok(numbers)
 }
 
-#[tactic(auto, unfolding(crate::specs::Writing::table_of))]
+#[tactic(auto, unfolding(crate::specs::Writing::written_table))]
 fn table(alloc: Global, problem: &Problem) -> Result<Table, NoMemory>
-    ensures { IfOk result (λ table. table_view table ≡ table_of (problem_view problem.now)) }
+    ensures { IfOk result (λ table. table_view table ≡ written_table (problem_view problem.now)) }
 {
     let weights = weights(alloc, &problem.setup)?;
     let moduli = moduli(alloc, problem.moduli.as_slice())?;

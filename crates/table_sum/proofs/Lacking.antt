@@ -8,7 +8,7 @@ use Rattle.residue.specs.Answers.{GivesResidue}
 use Rattle.factor_table.specs.declared.key.Key.{Key}
 use Rattle.factor_table.specs.declared.parameters.Parameters.{Parameters}
 use Rattle.factor_table.specs.declared.table.FactorTable.{FactorTable}
-use Rattle.factor_table.specs.Factors.{modulus_at, fraction_of, IsKeyOf}
+use Rattle.factor_table.specs.Factors.{modulus_in, fraction_of, IsKeyOf}
 use Rattle.factor_table.specs.Seats.{parameters_of}
 use Rattle.table_sum.specs.Numberings.{one_numbering}
 use Rattle.table_sum.specs.Problems.{IsTableOf}
@@ -18,13 +18,13 @@ use Rattle.table_sum.proofs.ProblemLaws.{table_moduli}
 
 -- the factor of a key that is refused
 pub lacks_key : (p : Parameters) (index : ℕ) (key : Key) (answer : Result ℕ NoUnit) → IsKeyOf p key
-    → GivesResidue (modulus_at p index) (fraction_of p key) answer → OnErr answer (LacksUnit p index)
+    → GivesResidue (modulus_in p index) (fraction_of p key) answer → OnErr answer (LacksUnit p index)
 lacks_key p index key (Ok x) is given = tt
 lacks_key p index key (Err e) is given = at_key key is (given.refused.0 refl)
 
 -- one over n! that is refused
 pub lacks_numbering : (p : Parameters) (index n : ℕ) (answer : Result ℕ NoUnit) → n ≤ p.degree + 1
-    → GivesResidue (modulus_at p index) (one_numbering n) answer → OnErr answer (LacksUnit p index)
+    → GivesResidue (modulus_in p index) (one_numbering n) answer → OnErr answer (LacksUnit p index)
 lacks_numbering p index n (Ok x) most given = tt
 lacks_numbering p index n (Err e) most given = at_vertices n most (given.refused.0 refl)
 

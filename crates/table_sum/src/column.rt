@@ -1,7 +1,7 @@
 //! The words of a table for one of its moduli.
 
 ghost use Rattle.std.specs.Prelude.{◌≡◌, ◌<◌, ◌≤◌, length};
-ghost use Rattle.factor_table.specs.Factors.{modulus_at};
+ghost use Rattle.factor_table.specs.Factors.{modulus_in};
 ghost use Rattle.factor_table.specs.Seats.{parameters_of};
 
 use factor_table::{FactorSeat, FactorTable};
@@ -17,7 +17,7 @@ pub(crate) struct Column<'a> {
     ghost above: { 1 < modulus.now },
     ghost within: { index < length (parameters_of table.now).moduli },
     ghost few_classes: { length (parameters_of table.now).classes ≤ 512 },
-    ghost is_modulus: { modulus.now ≡ modulus_at (parameters_of table.now) index },
+    ghost is_modulus: { modulus.now ≡ modulus_in (parameters_of table.now) index },
 }
 
 impl<'a> Column<'a> {

@@ -1,5 +1,5 @@
 use Rattle.std.proofs.Common.{subst, arith}
-use Rattle.factor_table.specs.Factors.{modulus_at, fraction_of}
+use Rattle.factor_table.specs.Factors.{modulus_in, fraction_of}
 use Rattle.factor_table.specs.Rule.{IsFactorAt}
 use Rattle.factor_table.proofs.Keys.{from_first, below_count, found}
 use Rattle.factor_table.proofs.Moves.{looks_told}
@@ -19,6 +19,6 @@ returns-else-found-eq0-clause-value c =
     let p = c.args.self.now.parameters in let place = c.args.place in let word = c.load-found.result in
     let there =
     subst (λ q. IsFactorAt q place word) c.requires.seat.1 (c.load-found.ensures.2.1 c.if-found-eq0.false) in
-    c.answer_of.ensures (modulus_at p c.args.modulus) (fraction_of p c.args.key)
+    c.answer_of.ensures (modulus_in p c.args.modulus) (fraction_of p c.args.key)
     (c.args.self.now.moduli_limited c.args.modulus c.requires.modulus)
     (found p c.args.key c.args.modulus place word c.requires.key c.requires.modulus c.requires.place there)

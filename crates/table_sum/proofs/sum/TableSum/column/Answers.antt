@@ -1,5 +1,5 @@
 use Rattle.std.proofs.Common.{◌<◌, length, slice_index, ap, ap₂, sym, subst, ◌∙◌}
-use Rattle.factor_table.specs.Factors.{modulus_at}
+use Rattle.factor_table.specs.Factors.{modulus_in}
 use Rattle.factor_table.specs.Seats.{parameters_of}
 use Rattle.table_sum.proofs.ProblemLaws.{table_few_classes, table_moduli}
 use Rattle.table_sum.proofs.sum.TableSum.column.Goals as goal
@@ -16,5 +16,5 @@ pub returns-clause-modulus : goal.returns-clause-modulus
 returns-clause-modulus c =
     let s = c.args.self.now in
     c.of.result.is_modulus
-    ∙ ap₂ (λ t index. modulus_at (parameters_of t) index) c.of.ensures.table c.of.ensures.index
+    ∙ ap₂ (λ t index. modulus_in (parameters_of t) index) c.of.ensures.table c.of.ensures.index
     ∙ ap (λ ms. slice_index ms c.args.index) (table_moduli s.problem.now s.table.now s.its_table)
