@@ -1,5 +1,5 @@
 -- The first state of a problem is true: no tree is summed, and each residue is 0.
-use Rattle.std.proofs.Common.{◌≡◌, ℕ, zero, ◌%◌, ◌<◌, ◌≤◌, List, length, replicate, pos, sym, ap, subst, arith, mod-lt}
+use Rattle.std.proofs.Common.{◌≡◌, ℕ, ◌<◌, ◌≤◌, List, length, replicate, pos, sym, subst, arith}
 use Rattle.std.specs.Prelude.{slice_index}
 use Rattle.std.proofs.lemmas.List.{length-replicate}
 use Rattle.arithmetic.specs.Fractions.{fraction, IsResidue}
@@ -8,13 +8,9 @@ use Rattle.localisation.specs.Agreement.{modulus_at, integral_at}
 use Rattle.localisation.proofs.PartialSums.{partial_sum-none}
 use Rattle.problem.specs.Rules.{ProblemView, KeepsRules}
 use Rattle.problem.specs.Sums.{places_of}
+use Rattle.problem.proofs.ProblemLaws.{modulus_above}
 use Rattle.checkpoint.specs.States.{StateView, IsTrueState, first_state}
 use Rattle.lists.proofs.Padding.{zeros}
-
-pub modulus_above : (p : ProblemView) → KeepsRules p → (place : ℕ) → 1 < modulus_at p.moduli place
-modulus_above p rules place =
-    let h = rules.moduli.each (place % length p.moduli) 0 (mod-lt place rules.moduli.least) in
-    let above = h.at_least_3 in omega arith
 
 at_least : (n k : ℕ) → k ≡ n → n ≤ k
 at_least n k e = omega arith

@@ -10,8 +10,9 @@ use Rattle.localisation.specs.Agreement.{NoneBad, modulus_at, integral_at}
 use Rattle.localisation.proofs.PartialSums.{partial_sum-cut, partial_sum-next}
 use Rattle.problem.specs.Rules.{KeepsRules}
 use Rattle.problem.specs.Sums.{is_bad_of}
+use Rattle.problem.proofs.ProblemLaws.{modulus_above}
 use Rattle.range_sum.proofs.BadTrees.{has_unit, nowhere_bad, is_bad_at}
-use Rattle.checkpoint.proofs.FirstStates.{first_is_true, modulus_above}
+use Rattle.checkpoint.proofs.FirstStates.{first_is_true}
 use Rattle.rounds.specs.Outcomes.{SumView, IsTrueSum}
 use Rattle.locus_core.specs.Begins.{Beginning, IsTrueBeginning}
 

@@ -1,1 +1,2 @@
 mod ModulusLists
+pub mod ProblemLaws

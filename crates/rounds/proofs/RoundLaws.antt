@@ -9,6 +9,7 @@ use Rattle.localisation.specs.Contribution.{partial_sum}
 use Rattle.localisation.specs.Agreement.{modulus_at, integral_at, NoneBad, IsLeastBad, AreResiduesOf}
 use Rattle.problem.specs.Rules.{ProblemView}
 use Rattle.problem.specs.Sums.{places_of, is_bad_of}
+use Rattle.problem.proofs.ProblemLaws.{modulus_above}
 use Rattle.checkpoint.specs.States.{AreResidues}
 use Rattle.factor_table.specs.declared.table.FactorTable.{FactorTable}
 use Rattle.claim_table.specs.Counts.{nothing_bad}
@@ -18,7 +19,6 @@ use Rattle.worker_pool.specs.Rounds.{IsCleanRound, all_clean, blocks_of}
 use Rattle.sum_job.specs.declared.part.PartSum.{PartSum}
 use Rattle.sum_job.specs.Parts.{JobView, KeepsJob, block_count, block_start, block_stop, least_bad_among, least_bad_of, sum_of_blocks, sum_at, IsReady, AreReduced, StandsFor, GrewByNumbers}
 use Rattle.sum_job.proofs.JobLaws.{among_none_back, among_some_back}
-use Rattle.sum_job.proofs.AddedResidues.{modulus_above}
 use Rattle.sum_job.proofs.Together.{together}
 
 -- ---- bad numbers

@@ -9,9 +9,9 @@ use Rattle.localisation.proofs.AllNumbers.{none_append}
 use Rattle.localisation.proofs.PartialSums.{partial_sum-cut, partial_sum-none}
 use Rattle.problem.specs.Rules.{KeepsRules}
 use Rattle.problem.specs.Sums.{is_bad_of, ArePartialSums}
+use Rattle.problem.proofs.ProblemLaws.{modulus_above}
 use Rattle.checkpoint.specs.States.{AreResidues}
 use Rattle.sum_job.specs.Parts.{GrewByNumbers}
-use Rattle.sum_job.proofs.AddedResidues.{modulus_above}
 use Rattle.rounds.specs.Outcomes.{SumView, IsSummed, IsTrueSum}
 use Rattle.rounds.proofs.RoundLaws.{residues_reduced}
 

@@ -1,5 +1,5 @@
 -- Residues that are added to the residues of sums, one index after the other, each modulo its own modulus.
-use Rattle.std.proofs.Common.{◌≡◌, ◌≢◌, ℕ, ◌+◌, ◌*◌, ◌%◌, ◌<◌, ◌≤◌, List, length, get_or, set, slice_index, sym, ap, ◌∙◌, subst, arith, ⊎_elim, mul-le-mul, mod-lt, Some}
+use Rattle.std.proofs.Common.{◌≡◌, ◌≢◌, ℕ, ◌+◌, ◌*◌, ◌%◌, ◌<◌, ◌≤◌, List, length, get_or, set, slice_index, sym, ap, ◌∙◌, subst, arith, ⊎_elim, mul-le-mul, Some}
 use Rattle.std.specs.List.{slice_get}
 use Rattle.std.proofs.lemmas.Bool.{cases_eq}
 use Rattle.std.proofs.lemmas.List.{get_or-set_same, get_or-set_other}
@@ -13,13 +13,6 @@ pub at_most_64 : (p : ProblemView) → KeepsRules p → places_of p ≤ 64
 at_most_64 p rules =
     let most : length p.integrals * length p.moduli ≤ 8 * 8 = mul-le-mul rules.few_integrals rules.moduli.most in
     omega arith
-
--- each modulus of a problem is above 1
-pub modulus_above : (p : ProblemView) → KeepsRules p → (place : ℕ) → 1 < modulus_at p.moduli place
-modulus_above p rules place =
-    let some = rules.moduli.least in
-    let h = rules.moduli.each (place % length p.moduli) 0 (mod-lt place some) in
-    let above = h.at_least_3 in omega arith
 
 -- one more entry that was written
 pub added_next : (P : ℕ → ℕ → ℕ → Type 0) (xs initial : List ℕ) (new place : ℕ) → place < length xs

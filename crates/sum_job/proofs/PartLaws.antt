@@ -11,6 +11,7 @@ use Rattle.arithmetic.proofs.Residues.{IsResidue-plus, residue_of_zero}
 use Rattle.classes.specs.declared.class.Term.{Term}
 use Rattle.localisation.specs.Agreement.{modulus_at, integral_at, AreResiduesOf}
 use Rattle.problem.specs.Sums.{is_bad_of}
+use Rattle.problem.proofs.ProblemLaws.{modulus_above}
 use Rattle.claim_table.specs.Counts.{nothing_bad, least_of}
 use Rattle.claim_table.proofs.Lists.{least_most}
 use Rattle.trees.specs.TreeNumbers.{tree_of}
@@ -23,7 +24,7 @@ use Rattle.worker_pool.specs.Rounds.{at_most, answers, blocks_of}
 use Rattle.sum_job.specs.declared.part.PartSum.{PartSum}
 use Rattle.sum_job.specs.Parts.{JobView, KeepsJob, least_bad_of, block_start, block_stop, block_sum, sum_of_blocks, IsReady, IsWorked, KnowsBlock, AreClean, StandsFor, least_with, IsAdded}
 use Rattle.sum_job.proofs.JobLaws.{among_some_back}
-use Rattle.sum_job.proofs.AddedResidues.{at_most_64, modulus_above}
+use Rattle.sum_job.proofs.AddedResidues.{at_most_64}
 use Rattle.lists.proofs.Padding.{zeros}
 
 -- ---- no block

@@ -4,9 +4,9 @@ use Rattle.localisation.specs.Contribution.{partial_sum}
 use Rattle.localisation.specs.Agreement.{modulus_at}
 use Rattle.problem.specs.declared.problem.Problem.{Problem}
 use Rattle.problem.specs.Problems.{view}
+use Rattle.problem.proofs.ProblemLaws.{modulus_above}
 use Rattle.table_sum.specs.Sums.{GrowBy}
 use Rattle.sum_job.specs.Parts.{AreReduced, GrewByNumbers}
-use Rattle.sum_job.proofs.AddedResidues.{modulus_above}
 
 -- sums that grew through the table grew by the numbers
 pub grown : (p : Problem) (start stop : ℕ) (old new : List ℕ)
