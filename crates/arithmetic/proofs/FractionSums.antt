@@ -16,7 +16,7 @@ turn : (x y z : ℤ) → x *ℤ (y *ℤ z) ≡ y *ℤ (z *ℤ x)
 turn x y z = *ℤ_comm x (y *ℤ z) ∙ *ℤ_assoc y z x
 
 -- the second factor comes first
-second_first : (x y z : ℤ) → x *ℤ (y *ℤ z) ≡ y *ℤ (x *ℤ z)
+pub second_first : (x y z : ℤ) → x *ℤ (y *ℤ z) ≡ y *ℤ (x *ℤ z)
 second_first x y z = turn x y z ∙ ap (λ w. y *ℤ w) (*ℤ_comm z x)
 
 -- the first and the last factor change places

@@ -1,8 +1,7 @@
 -- Products of whole numbers are equal where they have the same factors, in whatever order and brackets.
 use Rattle.std.proofs.Common.{◌≡◌, ℕ, nat_lt, if◌then◌else◌, List, [], ◌∷◌, Bool, true, false, get_or, ℤ, pos, ◌*ℤ◌, refl, sym, ap, ◌∙◌}
-use Rattle.std.proofs.Math.IntN.{*ℤ_comm}
 use Rattle.arithmetic.proofs.IntegerLaws.{*ℤ_assoc}
-use Rattle.arithmetic.proofs.FractionSums.{*ℤ-pos-one, one-*ℤ}
+use Rattle.arithmetic.proofs.FractionSums.{*ℤ-pos-one, one-*ℤ, second_first}
 
 -- a product in brackets: 1, the factor at a place, or two products
 pub data Shape : Type 0 where
@@ -33,16 +32,13 @@ abbrev listed : List ℤ → List ℕ → ℤ
 listed zs [] = pos 1
 listed zs (n ∷ ns) = get_or zs n (pos 1) *ℤ listed zs ns
 
-pub swapped : (a d p : ℤ) → a *ℤ (d *ℤ p) ≡ d *ℤ (a *ℤ p)
-swapped a d p = sym (*ℤ_assoc a d p) ∙ ap (λ z. z *ℤ p) (*ℤ_comm a d) ∙ *ℤ_assoc d a p
-
 listed-put : (zs : List ℤ) (n : ℕ) (ks : List ℕ) → listed zs (put n ks) ≡ get_or zs n (pos 1) *ℤ listed zs ks
 listed-put zs n [] = refl
 listed-put zs n (k ∷ ks) = by_case (nat_lt k n) (listed-put zs n ks)
   where
     by_case : (b : Bool) → listed zs (put n ks) ≡ get_or zs n (pos 1) *ℤ listed zs ks
         → listed zs (if b then k ∷ put n ks else n ∷ k ∷ ks) ≡ get_or zs n (pos 1) *ℤ (get_or zs k (pos 1) *ℤ listed zs ks)
-    by_case true h = ap (λ z. get_or zs k (pos 1) *ℤ z) h ∙ swapped (get_or zs k (pos 1)) (get_or zs n (pos 1)) (listed zs ks)
+    by_case true h = ap (λ z. get_or zs k (pos 1) *ℤ z) h ∙ second_first (get_or zs k (pos 1)) (get_or zs n (pos 1)) (listed zs ks)
     by_case false h = refl
 
 listed-put_all : (zs : List ℤ) (ns ks : List ℕ) → listed zs (put_all ns ks) ≡ listed zs ns *ℤ listed zs ks

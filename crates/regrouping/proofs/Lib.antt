@@ -1,6 +1,5 @@
 pub mod Factors
 pub mod ExtensionLaws
-pub mod CrossedSums
 pub mod VertexParts
 pub mod ClassPowers
 pub mod EdgeProducts
@@ -10,7 +9,6 @@ pub mod MarkCounts
 pub mod TreeProducts
 pub mod Contributions
 pub mod Prefixes
-pub mod StepsOnce
 pub mod WalkedTrees
 pub mod ProductOrders
 pub mod Steps

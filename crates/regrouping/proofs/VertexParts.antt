@@ -12,7 +12,7 @@ use Rattle.regrouping.specs.Flags.{flag, flag_sum, share, tangent_part, vertex_p
 use Rattle.regrouping.proofs.Factors.{none, at, by, same_places}
 use Rattle.regrouping.proofs.ClassPowers.{power-one}
 use Rattle.regrouping.proofs.ExtensionLaws.{extends_same, extends_trans}
-use Rattle.regrouping.proofs.CrossedSums.{crossed-cons}
+use Rattle.localisation.proofs.CrossedSums.{crossed-cons}
 
 -- ---- the sum and the product of the flags
 pub flag_sum-is : (ws : List ℤ) (c : ℕ) (es : List End) → flag_sum ws c es ≡ fraction (crossed_sum ws c es) (product_of_differences ws c es)

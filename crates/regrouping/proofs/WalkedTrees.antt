@@ -14,8 +14,7 @@ use Rattle.std.proofs.lemmas.Bool.{and_parts}
 use Rattle.trees.proofs.AllTrees.{parts}
 use Rattle.trees.proofs.PrunedTrees.{before_trans, before_one_way, increasing-parts}
 use Rattle.trees.proofs.WalkLaws.{is_walked}
-use Rattle.trees.proofs.WalkedEdges.{step_edge, IsTreeWalk, tree_walk}
-use Rattle.regrouping.proofs.StepsOnce.{edges_once, along_in}
+use Rattle.trees.proofs.WalkedEdges.{step_edge, IsTreeWalk, along_in, edges_once, tree_walk}
 use Rattle.arithmetic.specs.Fractions.{IsResidue}
 use Rattle.classes.specs.declared.class.Term.{Term}
 use Rattle.localisation.specs.Contribution.{contribution}

@@ -55,7 +55,7 @@ walk_along (suc k) es before up =
     along_append es (steps_of es before) (walk_in k es (after (steps_of es before) before)) (steps_along es es before up (λ e i. i))
     (walk_along k es (after (steps_of es before) before) up)
 
-along_in : (es walk : List (ℕ × ℕ)) → AlongEdges es walk → (e : ℕ × ℕ) → IsIn e (map step_edge walk) → IsIn e es
+pub along_in : (es walk : List (ℕ × ℕ)) → AlongEdges es walk → (e : ℕ × ℕ) → IsIn e (map step_edge walk) → IsIn e es
 along_in es [] h e i = absurd (nothing_in i)
 along_in es (s ∷ walk) h e i = ⊎_elim (λ same. subst (λ z. IsIn z es) (sym same) h.0) (λ j. along_in es walk h.1 e j) (in_cons i)
 
@@ -76,7 +76,7 @@ new_edge (s ∷ walk) before u v e w p q i =
     other : (a b : ℕ) → u ≢ a → v ≢ a → edge_between u v ≡ edge_between a b → ⊥
     other a b h k t = absurd (let x : true ≡ false = sym (at_end a b) ∙ ap (touches a) (sym t) ∙ not_at a h k in cc)
 
-edges_once : (walk : List (ℕ × ℕ)) (before : List ℕ) → IsWalk walk before → EachOnce (map step_edge walk)
+pub edges_once : (walk : List (ℕ × ℕ)) (before : List ℕ) → IsWalk walk before → EachOnce (map step_edge walk)
 edges_once [] before w = tt
 edges_once (s ∷ walk) before w =
     (λ e i. new_edge walk (s.0 ∷ before) s.0 s.1 e w.2 (now_there s.0 before) (still_there s.1 s.0 before w.1) i, edges_once walk (s.0 ∷ before) w.2)

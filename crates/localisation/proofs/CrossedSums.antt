@@ -1,4 +1,4 @@
--- The crossed sum over the ends at a vertex, with one end more.
+-- The crossed sum over the ends at a vertex, with one end more at the front.
 use Rattle.std.proofs.Common.{◌≡◌, ℕ, zero, suc, List, [], ◌∷◌, ◌++◌, length, map, remove, ℤ, pos, ◌+ℤ◌, ◌*ℤ◌, refl, sym, ap, ap₂, ◌∙◌, arith}
 use Rattle.std.proofs.lemmas.Int.{ints}
 use Rattle.std.proofs.Math.IntN.{*ℤ-zero}
@@ -6,7 +6,6 @@ use Rattle.arithmetic.specs.Numbers.{integer_sum}
 use Rattle.arithmetic.proofs.IntegerLaws.{*ℤ-+ℤ}
 use Rattle.lists.specs.Ranges.{below}
 use Rattle.localisation.specs.VertexFraction.{End, difference, product_of_differences, crossed_sum, degree_at}
-use Rattle.regrouping.proofs.Factors.{swapped}
 
 -- ---- sums over the numbers below n
 total-push : (us : List ℕ) (u : ℕ) (f : ℕ → ℤ) → integer_sum (map f (us ++ u ∷ [])) ≡ integer_sum (map f us) +ℤ f u
@@ -35,5 +34,5 @@ pub crossed-cons : (ws : List ℤ) (c : ℕ) (e : End) (es : List End)
 crossed-cons ws c e es =
     total-first (length es) (λ u. pos (degree_at (e ∷ es) u) *ℤ product_of_differences ws c (remove (e ∷ es) u))
     ∙ ap (λ z. pos e.degree *ℤ product_of_differences ws c es +ℤ z)
-    (total-same (below (length es)) _ _ (λ u. swapped (pos (degree_at es u)) (difference ws c e) (product_of_differences ws c (remove es u)))
+    (total-same (below (length es)) _ _ (λ u. second_first (pos (degree_at es u)) (difference ws c e) (product_of_differences ws c (remove es u)))
     ∙ total-times (below (length es)) (difference ws c e) (λ u. pos (degree_at es u) *ℤ product_of_differences ws c (remove es u)))
