@@ -1,10 +1,11 @@
 -- The classes of terms in the table's list, and the values of classes.
-use Rattle.std.proofs.Common.{◌≡◌, ℕ, ◌+◌, ◌<◌, ◌≤◌, List, [], ◌∷◌, ◌++◌, length, length-append, take, get_or, flat_map, ℤ, refl, sym, ap, ◌∙◌, arith}
+use Rattle.std.proofs.Common.{◌≡◌, ℕ, ◌+◌, ◌-◌, ◌<◌, ◌≤◌, List, [], ◌∷◌, ◌++◌, length, length-append, take, get_or, flat_map, ℤ, pos, ◌*ℤ◌, neg_ℤ, refl, sym, ap, ◌∙◌, arith}
+use Rattle.arithmetic.specs.Numbers.{power}
 use Rattle.std.proofs.lemmas.Grind.{flat_map-append}
 use Rattle.std.proofs.lemmas.List.Concat.{get_or-flat_map, flat_map-cons}
 use Rattle.std.proofs.lemmas.List.Folds.{length-flat_map-take}
 use Rattle.std.proofs.lemmas.List.{get_or-map, length-map, take_more, flat_map_more}
-use Rattle.arithmetic.specs.Fractions.{IsResidue}
+use Rattle.arithmetic.specs.Fractions.{fraction, IsResidue}
 use Rattle.arithmetic.proofs.Residues.{IsResidue-whole}
 use Rattle.trees.specs.Decorated.{DecoratedTree}
 use Rattle.classes.specs.declared.class.Class.{Class}
@@ -14,7 +15,8 @@ use Rattle.classes.specs.declared.class.Term.{Term}
 use Rattle.residue.specs.declared.ratio.Ratio.{Ratio}
 use Rattle.classes.specs.Classes.{IsClassFor}
 use Rattle.residue.specs.Ratios.{IsRatioOf}
-use Rattle.localisation.specs.ClassValue.{class_value, class_product}
+use Rattle.localisation.specs.Weights.{weight}
+use Rattle.localisation.specs.ClassValue.{class_value, class_product, class_vertex}
 use Rattle.factor_table.specs.Factors.{HasParts}
 use Rattle.table_sum.specs.Classes.{classes_of_powers, classes_of_term, classes_of_terms, AreClassesFrom}
 
@@ -101,6 +103,15 @@ whole_value ws (Incidence q) g marks m ratio h none r = IsResidue-whole _ r.top
 whole_value ws (R1 k) g marks m ratio h none r = absurd (none h.parameter)
 whole_value ws Contact g marks m ratio h none r = absurd (none tt)
 whole_value ws (Psi mark) g marks m ratio h none r = IsResidue-whole _ r.top
+
+-- ---- the part of a class at a leaf is 1
+pub vertex_of_leaf : (ws : List ℤ) (class : Class) (c s : ℕ) → s ≡ 1 → class_vertex ws class c s ≡ fraction (pos 1) (pos 1)
+vertex_of_leaf ws (Mark mark) c s e = refl
+vertex_of_leaf ws (Hypersurface b) c s e = ap (λ n. fraction (pos 1) (power (pos b *ℤ weight ws c) (n - 1))) e
+vertex_of_leaf ws (Incidence q) c s e = refl
+vertex_of_leaf ws (R1 k) c s e = ap (λ n. fraction (power (neg_ℤ (pos k) *ℤ weight ws c) (n - 1)) (pos 1)) e
+vertex_of_leaf ws Contact c s e = ap (λ n. fraction (power (pos 2 *ℤ weight ws c) (n - 1)) (pos 1)) e
+vertex_of_leaf ws (Psi mark) c s e = refl
 
 -- ---- the classes are listed one after another
 pub flat-next : {A : Type 0} (f : A → List Class) (initial old new : List Class) (xs : List A) (i : ℕ) (x : A)

@@ -8,3 +8,4 @@ pub mod ClassLaws
 pub mod ProblemLaws
 pub mod SumLaws
 pub mod Lacking
+pub mod PsiFree

@@ -49,3 +49,17 @@ residue_negated {m} {x} {z} {r} above h zero_is e =
     let difference = Leaves-sub zero_is own e in
     residue_times above (IsResidue-whole (pos 0 -ℤ pos 1) minus) h
     (difference.is ∙ ap (reduce m) (turned x) ∙ sym product.is)
+
+-- ---- factors and powers that cost nothing
+pub one_times : (x y m : ℕ) → x ≡ 1 → y < m → y ≡ (x * y) % m
+one_times x y m e h = sym (ap (λ k. (k * y) % m) e ∙ ap (λ k. k % m) (let l : 1 * y ≡ y = omega arith in l) ∙ mod-eq_of_lt h)
+
+pub times_one : (x y m : ℕ) → y ≡ 1 → x < m → x ≡ (x * y) % m
+times_one x y m e h = sym (ap (λ k. (x * k) % m) e ∙ ap (λ k. k % m) (let l : x * 1 ≡ x = omega arith in l) ∙ mod-eq_of_lt h)
+
+pub power_none : (x n m : ℕ) → n ≡ 0 → 1 < m → 1 ≡ (x ^ n) % m
+power_none x n m e h = sym (ap (λ k. (x ^ k) % m) e ∙ ap (λ k. k % m) (pow-zero x) ∙ mod-eq_of_lt h)
+
+pub power_one : (x n m : ℕ) → n ≡ 1 → x < m → x ≡ (x ^ n) % m
+power_one x n m e h =
+    sym (ap (λ k. (x ^ k) % m) e ∙ ap (λ k. k % m) (pow-suc x 0 ∙ ap (λ k. k * x) (pow-zero x) ∙ (let l : 1 * x ≡ x = omega arith in l)) ∙ mod-eq_of_lt h)

@@ -2,7 +2,8 @@
 use Rattle.std.specs.Prelude.{ℕ, ◌<◌, ◌≤◌, List, length, All, ℤ}
 use Rattle.trees.specs.Decorated.{DecoratedTree, TreeShape}
 use Rattle.arithmetic.specs.Fractions.{Fraction, times}
-use Rattle.localisation.specs.ClassValue.{at_edges}
+use Rattle.localisation.specs.VertexFraction.{plain_vertex}
+use Rattle.localisation.specs.ClassValue.{at_edges, colour_of, ends_at, marks_at}
 use Rattle.localisation.specs.Contribution.{edge_factors}
 use Rattle.factor_table.specs.declared.key.Key.{Key}
 use Rattle.factor_table.specs.declared.key.Key.TheVariants.{Edge}
@@ -28,3 +29,7 @@ KnowsEdges s t g modulus = All (λ key. Knows s t key modulus) (edge_keys g)
 -- what a tree has as a factor in each integral: the fractions of its edges, over n! for n vertices
 abbrev pub tree_start : List ℤ → DecoratedTree → Fraction
 tree_start ws g = times (one_numbering g.vertices) (edge_factors ws g)
+
+-- the fraction of the vertex v without exponents
+abbrev pub plain_at : List ℤ → DecoratedTree → ℕ → Fraction
+plain_at ws g v = plain_vertex ws (colour_of g v) (ends_at g v) (length (marks_at g v))

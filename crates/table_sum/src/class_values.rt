@@ -2,11 +2,12 @@
 
 ghost use Rattle.std.specs.Prelude.{◌≡◌, ◌+◌, ◌<◌, ◌≤◌, length, All, OnErr};
 ghost use Rattle.arithmetic.specs.Fractions.{product_of_fractions};
-ghost use Rattle.localisation.specs.ClassValue.{class_edge, class_value, term_value, at_edges, at_vertices};
+ghost use Rattle.localisation.specs.ClassValue.{class_edge, class_vertex, class_value, term_value, at_edges, at_vertices};
 ghost use Rattle.classes.specs.Classes.{IsClassFor, IsPowerFor};
 ghost use Rattle.class_factor.specs.Powers.{value_of_powers};
 ghost use Rattle.class_factor.specs.Vertices.{class_at_vertex};
-ghost use Rattle.factor_table.specs.Factors.{HasParts, class_at};
+ghost use Rattle.factor_table.specs.declared.key.Key.{Key};
+ghost use Rattle.factor_table.specs.Factors.{HasParts, class_at, IsKeyOf};
 ghost use Rattle.factor_table.specs.Seats.{parameters_of, IsSeatOf};
 ghost use Rattle.table_sum.specs.Words.{MayGive, IsLater, LacksUnit};
 ghost use Rattle.table_sum.specs.Trees.{IsShapeIn};
@@ -42,7 +43,7 @@ pub(crate) fn term_value(
     let powers = powers_value(column, seat, parts, term.classes.as_slice(), first)?;
     let number = term.coefficient;
     let coefficient = column.modulus.of_i64(number);
-    Ok(column.modulus.mul(coefficient, powers))
+    Ok(column.times(coefficient, powers))
 }
 
 /// The residue of the product of the values of classes, each to its power.
@@ -66,8 +67,8 @@ fn powers_value(
     let mut index = first;
     for power in powers {
         let value = class_value(column, seat, parts, &power.class, index)?;
-        let at_power = column.modulus.pow(value, power.power as u64);
-        product = column.modulus.mul(product, at_power);
+        let at_power = column.power(value, power.power as u64);
+        product = column.times(product, at_power);
         index += 1;
     }
     Ok(product)
@@ -94,7 +95,7 @@ fn class_value(
     if has_parts(class) {
         let at_edges = edge_parts(column, seat, parts, index)?;
         let at_vertices = vertex_parts(column, seat, parts, index)?;
-        Ok(column.modulus.mul(at_edges, at_vertices))
+        Ok(column.times(at_edges, at_vertices))
     } else {
         Ok(whole_ratio(column.setup(), class, parts, column.modulus).top)
     }
@@ -121,7 +122,7 @@ fn edge_parts(
     let edges = parts.edges();
     for edge in edges {
         let part = column.class_edge(seat, index, edge.first, edge.second, edge.degree)?;
-        product = column.modulus.mul(product, part);
+        product = column.times(product, part);
     }
     Ok(product)
 }
@@ -146,8 +147,30 @@ fn vertex_parts(
     let mut product = column.modulus.of_u64(1);
     for vertex in 0..parts.vertices() {
         let valence = parts.ends_at(vertex).len() as u8;
-        let part = column.class_vertex(seat, index, parts.colour(vertex), valence)?;
-        product = column.modulus.mul(product, part);
+        let part = vertex_part(column, seat, index, parts.colour(vertex), valence)?;
+        product = column.times(product, part);
     }
     Ok(product)
+}
+
+/// The residue of the part of a class at a vertex of colour `c` with `valence` edges. At a leaf it is 1, and no word is
+/// asked for.
+fn vertex_part(
+    column: &Column,
+    seat: &mut FactorSeat,
+    index: u16,
+    c: u8,
+    valence: u8,
+) -> Result<u64, NoUnit>
+    requires seat { IsSeatOf seat.old column.now.table.now }
+    requires key { IsKeyOf (parameters_of column.now.table.now) (Key.ClassVertex index c valence) }
+    ensures value { MayGive column.now.modulus.now (class_vertex (parameters_of column.now.table.now).setup
+        (class_at (parameters_of column.now.table.now) index) c valence) result }
+    ensures seat { IsLater column.now.table.now seat.old seat.new }
+    ensures refused { OnErr result (LacksUnit (parameters_of column.now.table.now) column.now.index) }
+{
+    if valence == 1 {
+        return Ok(column.modulus.of_u64(1));
+    }
+    column.class_vertex(seat, index, c, valence)
 }

@@ -42,7 +42,7 @@ impl<'a> Column<'a> {
 }
 
 impl Column<'_> {
-    ghost use Rattle.std.specs.Prelude.{◌≡◌, ℕ, ◌<◌, ◌≤◌, ◌∷◌, [], length, pos, OnErr};
+    ghost use Rattle.std.specs.Prelude.{◌≡◌, ℕ, ◌*◌, ◌%◌, ◌^◌, ◌<◌, ◌≤◌, ◌∷◌, [], length, pos, OnErr};
     ghost use Rattle.arithmetic.specs.Fractions.{fraction, IsResidue};
     ghost use Rattle.localisation.specs.Weights.{tangent_product};
     ghost use Rattle.localisation.specs.EdgeFraction.{edge_fraction};
@@ -60,6 +60,41 @@ impl Column<'_> {
         ensures { result.now ≡ (parameters_of self.now.table.now).setup }
     {
         &self.table.parameters().setup
+    }
+
+    /// The product of two residues. Products over edges and vertices begin with 1, and a factor 1 costs nothing.
+    #[inline]
+    pub(crate) fn times(&self, x: u64, y: u64) -> u64
+        requires x_below { x < self.now.modulus.now }
+        requires y_below { y < self.now.modulus.now }
+        ensures value { result ≡ (x * y) % self.now.modulus.now }
+        ensures below { result < self.now.modulus.now }
+    {
+        let _ = &self.modulus;
+        if x == 1 {
+            y
+        } else if y == 1 {
+            x
+        } else {
+            self.modulus.mul(x, y)
+        }
+    }
+
+    /// The power of a residue; the power 0 is 1. Most powers that are asked for are by 0 or 1, and cost nothing.
+    #[inline]
+    pub(crate) fn power(&self, x: u64, exponent: u64) -> u64
+        requires { x < self.now.modulus.now }
+        ensures value { result ≡ (x ^ exponent) % self.now.modulus.now }
+        ensures below { result < self.now.modulus.now }
+    {
+        let _ = &self.modulus;
+        if exponent == 0 {
+            1
+        } else if exponent == 1 {
+            x
+        } else {
+            self.modulus.pow(x, exponent)
+        }
     }
 
     /// The factor of the edge of degree `a` between vertices of the colours `i` and `j`. The seat knows its word then.

@@ -54,5 +54,5 @@ fn times(
         → OnErr second (LacksUnit (parameters_of column.now.table.now) column.now.index)
         → OnErr result (LacksUnit (parameters_of column.now.table.now) column.now.index) }
 {
-    Ok(column.modulus.mul(first?, second?))
+    Ok(column.times(first?, second?))
 }

@@ -42,10 +42,10 @@ pub(crate) fn power_at_ends(
 {
     let flags = flags_over(column, seat, c, ends)?;
     let tangent = column.tangent(seat, c);
-    let tangents = column.modulus.pow(tangent, ends.len() as u64 - 1);
-    let at_ends = column.modulus.mul(tangents, flags.product);
-    let sums = column.modulus.pow(flags.sum, exponent);
-    Ok(column.modulus.mul(at_ends, sums))
+    let tangents = column.power(tangent, ends.len() as u64 - 1);
+    let at_ends = column.times(tangents, flags.product);
+    let sums = column.power(flags.sum, exponent);
+    Ok(column.times(at_ends, sums))
 }
 
 /// The residues of the product and the sum of the flags of all ends.
@@ -72,7 +72,7 @@ fn flags_over(
     for (colour, degree) in ends {
         let flag = column.flag(seat, c, *colour, *degree)?;
         flags = Flags {
-            product: column.modulus.mul(flags.product, flag),
+            product: column.times(flags.product, flag),
             sum: column.modulus.add(flags.sum, flag),
         };
     }

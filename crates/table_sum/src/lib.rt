@@ -25,10 +25,12 @@ mod edges;
 mod flags;
 mod numberings;
 mod opening;
+mod psi_free;
 mod sum;
 mod terms;
 mod tree;
 mod vertex;
+mod vertices;
 
 pub use numberings::Numberings;
 pub use opening::problem_table;

@@ -52,7 +52,10 @@ fn sum(exponents: &[u8]) -> u64
 }
 
 /// The residue of the factor of a vertex with so many marks, none with a psi class.
-fn plain_residue(
+///
+/// # Errors
+/// `NoUnit` if a word that is asked for is no unit.
+pub(crate) fn plain_residue(
     column: &Column,
     seat: &mut FactorSeat,
     c: u8,

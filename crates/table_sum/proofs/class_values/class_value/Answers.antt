@@ -13,8 +13,8 @@ returns-in_ok-at_vertices-clause-value c =
     let ws = (parameters_of column.table.now).setup in
     let g = c.args.parts.now.tree in
     rw (has_product ws c.args.class.now g (c.has_parts.ensures.0 c.if-has_parts.true))
-    (subst (λ class. IsResidue column.modulus.now (class_product ws class g) c.mul.result) c.requires.index
-    (residue_times column.above c.in_ok-at_edges.ensures.value c.in_ok-at_vertices.ensures.value c.mul.ensures.value))
+    (subst (λ class. IsResidue column.modulus.now (class_product ws class g) c.times.result) c.requires.index
+    (residue_times column.above c.in_ok-at_edges.ensures.value c.in_ok-at_vertices.ensures.value c.times.ensures.value))
 
 pub returns-else-has_parts-clause-value : goal.returns-else-has_parts-clause-value
 returns-else-has_parts-clause-value c =

@@ -39,7 +39,7 @@ loop-edge-preserved c =
       seat = later_after _ _ _ _ c.loop-edge.invariant.seat c.class_edge.ensures.seat;
       value =
           rw (product-more (of_edge (class_edge p.setup (class_at p c.args.index))) c.edges-edges.result.now c.loop-edge.edge-index (coloured_edge 0 0 0) c.loop-edge-test.true)
-          (residue_times column.above c.loop-edge.invariant.value c.in_ok-part.ensures.value c.mul-product.ensures.value);
+          (residue_times column.above c.loop-edge.invariant.value c.in_ok-part.ensures.value c.times-product.ensures.value);
     }
 
 pub returns-clause-value : goal.returns-clause-value

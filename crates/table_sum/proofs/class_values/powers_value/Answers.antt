@@ -53,7 +53,7 @@ loop-power-preserved c =
       index = omega (arith, index);
       value = rw (product-more (power_value ws c.args.parts.now.tree) ps i none c.loop-power-test.true)
           (residue_times column.above c.loop-power.invariant.value
-          (residue_power (get_or ps i none).power column.above c.in_ok-value.ensures.value c.pow-at_power.ensures.value) c.mul-product.ensures.value);
+          (residue_power (get_or ps i none).power column.above c.in_ok-value.ensures.value c.power-at_power.ensures.value) c.times-product.ensures.value);
     }
 
 pub returns-clause-value : goal.returns-clause-value

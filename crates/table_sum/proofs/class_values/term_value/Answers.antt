@@ -19,4 +19,4 @@ returns-clause-value c =
     (subst (λ z. Leaves column.modulus.now z c.of_i64-coefficient.result) as_read c.of_i64-coefficient.ensures) in
     residue_times column.above coefficient
     (subst (λ ps. IsResidue column.modulus.now (value_of_powers ws c.args.parts.now.tree ps) c.in_ok-powers.powers) c.as_slice.ensures c.in_ok-powers.ensures.value)
-    c.mul.ensures.value
+    c.times.ensures.value

@@ -13,8 +13,8 @@ use Rattle.table_sum.proofs.Later.{later_same, later_after}
 use Rattle.table_sum.proofs.Powers.{residue_times}
 use Rattle.table_sum.proofs.class_values.vertex_parts.Goals as goal
 
-pub class_vertex-requires-clause-seat : goal.class_vertex-requires-clause-seat
-class_vertex-requires-clause-seat c = c.loop-vertex.invariant.seat.seat
+pub vertex_part-requires-clause-seat : goal.vertex_part-requires-clause-seat
+vertex_part-requires-clause-seat c = c.loop-vertex.invariant.seat.seat
 
 pub loop-vertex-init : goal.loop-vertex-init
 loop-vertex-init c = record {
@@ -32,9 +32,9 @@ loop-vertex-preserved c =
     subst (λ f. IsResidue column.modulus.now f c.in_ok-part.part)
     (ap₂ (class_vertex p.setup class) c.colour.ensures.value valence) c.in_ok-part.ensures.value in
     record {
-      seat = later_after _ _ _ _ c.loop-vertex.invariant.seat c.class_vertex.ensures.seat;
+      seat = later_after _ _ _ _ c.loop-vertex.invariant.seat c.vertex_part.ensures.seat;
       value = rw (product-vertex (class_at_vertex p.setup class c.args.parts.now.tree) c.loop-vertex.vertex)
-          (residue_times column.above c.loop-vertex.invariant.value part c.mul-product.ensures.value);
+          (residue_times column.above c.loop-vertex.invariant.value part c.times-product.ensures.value);
     }
 
 pub returns-clause-value : goal.returns-clause-value

@@ -8,4 +8,4 @@ returns-clause-product c = λ f g p q.
     let column = c.args.column.now in
     residue_times column.above
     (IfOk-at_ok (λ x. IsResidue column.modulus.now f x) c.in_ok-first.was p)
-    (IfOk-at_ok (λ x. IsResidue column.modulus.now g x) c.in_ok-second.was q) c.mul.ensures.value
+    (IfOk-at_ok (λ x. IsResidue column.modulus.now g x) c.in_ok-second.was q) c.times.ensures.value

@@ -30,7 +30,7 @@ loop-colour-preserved c =
     record {
       seat = later_after _ _ _ _ c.loop-colour.invariant.seat c.flag.ensures.seat;
       product = rw (product-more ws c.args.c ps i (get_or ps i (0, 0)).0 (get_or ps i (0, 0)).1 (omega arith) refl refl)
-          (residue_times column.above c.loop-colour.invariant.product c.in_ok-flag.ensures.value c.mul.ensures.value);
+          (residue_times column.above c.loop-colour.invariant.product c.in_ok-flag.ensures.value c.times.ensures.value);
       sum = rw (sum-more ws c.args.c ps i (get_or ps i (0, 0)).0 (get_or ps i (0, 0)).1 (omega arith) refl refl)
           (residue_plus column.above c.loop-colour.invariant.sum c.in_ok-flag.ensures.value c.add.ensures.value);
     }

@@ -12,10 +12,10 @@ returns-clause-value c =
     let ws = (parameters_of column.table.now).setup in
     let tangents =
     residue_power
-    (length c.args.ends.now - 1) column.above c.tangent-tangent.ensures.value c.pow-tangents.ensures.value in
+    (length c.args.ends.now - 1) column.above c.tangent-tangent.ensures.value c.power-tangents.ensures.value in
     let at_ends =
-    subst (λ s. IsResidue column.modulus.now (tangent_power ws c.args.c s) c.pow-tangents.result)
+    subst (λ s. IsResidue column.modulus.now (tangent_power ws c.args.c s) c.power-tangents.result)
     (sym (length-ends_of c.args.ends.now)) tangents in
     residue_times column.above
-    (residue_times column.above at_ends c.in_ok-flags.ensures.product c.mul-at_ends.ensures.value)
-    (residue_power c.args.exponent column.above c.in_ok-flags.ensures.sum c.pow-sums.ensures.value) c.mul.ensures.value
+    (residue_times column.above at_ends c.in_ok-flags.ensures.product c.times-at_ends.ensures.value)
+    (residue_power c.args.exponent column.above c.in_ok-flags.ensures.sum c.power-sums.ensures.value) c.times.ensures.value

@@ -59,7 +59,7 @@ loop-term-preserved c =
       index = let count = c.len.ensures in omega (arith, index, next, count);
       value = rw (terms-more ws g ts i c.term-item.result below c.term-item.is)
           (residue_plus column.above c.loop-term.invariant.value
-          (residue_times column.above c.in_ok-vertices.ensures.value c.in_ok-value.ensures.value c.mul-factor.ensures.value) c.add-sum.ensures.value);
+          (residue_times column.above c.in_ok-vertices.ensures.value c.in_ok-value.ensures.value c.times-factor.ensures.value) c.add-sum.ensures.value);
     }
 
 pub returns-clause-value : goal.returns-clause-value

@@ -9,7 +9,7 @@ use Rattle.contribution.specs.Terms.{vertex_at}
 use Rattle.factor_table.specs.Seats.{parameters_of}
 use Rattle.table_sum.proofs.Later.{later_same, later_after}
 use Rattle.table_sum.proofs.Powers.{residue_times}
-use Rattle.table_sum.proofs.terms.vertices_residue.Goals as goal
+use Rattle.table_sum.proofs.vertices.psi_vertices_residue.Goals as goal
 
 pub at_vertex-requires-clause-seat : goal.at_vertex-requires-clause-seat
 at_vertex-requires-clause-seat c = c.loop-vertex.invariant.seat.seat
@@ -27,7 +27,7 @@ loop-vertex-preserved c =
     record {
       seat = later_after _ _ _ _ c.loop-vertex.invariant.seat c.at_vertex.ensures.seat;
       value = rw (product-vertex (vertex_at ws c.args.term.now c.args.parts.now.tree) c.loop-vertex.vertex)
-          (residue_times column.above c.loop-vertex.invariant.value c.in_ok-factor.ensures.value c.mul-product.ensures.value);
+          (residue_times column.above c.loop-vertex.invariant.value c.in_ok-factor.ensures.value c.times-product.ensures.value);
     }
 
 pub returns-clause-value : goal.returns-clause-value

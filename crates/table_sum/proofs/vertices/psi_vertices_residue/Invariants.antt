@@ -4,7 +4,7 @@ use Rattle.lists.specs.Ranges.{below}
 use Rattle.contribution.specs.Terms.{vertex_at}
 use Rattle.factor_table.specs.Seats.{parameters_of}
 use Rattle.table_sum.specs.Words.{IsLater}
-use Rattle.table_sum.proofs.terms.vertices_residue.Given as goal
+use Rattle.table_sum.proofs.vertices.psi_vertices_residue.Given as goal
 
 abbrev pub invariant-loop-vertex : goal.invariant-loop-vertex
 invariant-loop-vertex l = record {

@@ -8,7 +8,7 @@ use Rattle.factor_table.specs.Seats.{parameters_of}
 use Rattle.table_sum.specs.Words.{MayGive}
 use Rattle.table_sum.specs.Ends.{IsEndIn}
 use Rattle.table_sum.proofs.TreeKeys.{end_in}
-use Rattle.table_sum.proofs.terms.at_vertex.Goals as goal
+use Rattle.table_sum.proofs.vertices.at_vertex.Goals as goal
 
 pub vertex_residue-requires-clause-ends_at : goal.vertex_residue-requires-clause-ends_at
 vertex_residue-requires-clause-ends_at c =
