@@ -4,6 +4,7 @@ use Rattle.std.proofs.lemmas.Int.{ints}
 use Rattle.std.proofs.Math.IntN.{*ℤ-zero}
 use Rattle.arithmetic.specs.Numbers.{integer_sum}
 use Rattle.arithmetic.proofs.IntegerLaws.{*ℤ-+ℤ}
+use Rattle.arithmetic.proofs.FractionSums.{second_first}
 use Rattle.lists.specs.Ranges.{below}
 use Rattle.localisation.specs.VertexFraction.{End, difference, product_of_differences, crossed_sum, degree_at}
 
