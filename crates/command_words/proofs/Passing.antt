@@ -1,7 +1,6 @@
 -- Which arguments of clap the words after a command belong to, and when their items pass one by one: the value of an option
 -- is the next word, if it does not stand behind a `=`.
 use Rattle.std.proofs.Common.{◌≡◌, ℕ, ◌==◌, List, [], ◌∷◌, ◌++◌, map, find, Option, Some, None, option_map, is_some, Bool, true, false, not, ◌&&◌, slice_get, refl, sym, subst}
-use Rattle.std.proofs.lemmas.Bool.{false≢true}
 use Rattle.std.proofs.lemmas.Option.{same_Some}
 use Rattle.std.specs.List.{list_any}
 use Rattle.std.specs.Str.{bytes_eq, chars}

@@ -1,6 +1,6 @@
 -- Lists of degrees and their ranks, one number after the other: the lists with a smaller first number are passed, as a
 -- whole binomial, and the rest is the rank of the other numbers.
-use Rattle.std.proofs.Common.{◌≡◌, ℕ, zero, suc, ◌+◌, ◌-◌, ◌*◌, ◌<◌, ◌≤◌, Bool, true, ◌&&◌, nat_le, List, [], ◌∷◌, ◌++◌, length, get_or, set, take, drop, replicate, sum, refl, sym, ap, ◌∙◌, subst, arith, le-leb, leb-true, append_assoc, length-append}
+use Rattle.std.proofs.Common.{◌≡◌, ℕ, zero, suc, ◌+◌, ◌-◌, ◌*◌, ◌<◌, ◌≤◌, Bool, true, nat_le, List, [], ◌∷◌, ◌++◌, length, get_or, set, take, drop, replicate, sum, refl, sym, ap, ◌∙◌, subst, arith, le-leb, leb-true, append_assoc, length-append}
 use Rattle.std.specs.List.{list_all}
 use Rattle.std.proofs.lemmas.List.{length-take-le}
 use Rattle.std.proofs.lemmas.List.Sums.{sum_by-cons}

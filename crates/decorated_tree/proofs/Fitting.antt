@@ -1,5 +1,5 @@
 -- What is asked of a tree of a shape, in the order in which it is tested.
-use Rattle.std.proofs.Common.{◌≡◌, ℕ, ◌+◌, ◌-◌, ◌<◌, ◌≤◌, Bool, true, false, ◌&&◌, nat_lt, nat_le, List, [], ◌∷◌, ◌++◌, length, take, get_or, set, length-set, sum, refl, sym, ap, ap₂, ◌∙◌, subst, arith, eqb-true, eq-eqb, leb-true, le-leb}
+use Rattle.std.proofs.Common.{◌≡◌, ℕ, ◌+◌, ◌-◌, ◌<◌, ◌≤◌, Bool, true, false, ◌&&◌, nat_lt, nat_le, List, [], ◌∷◌, ◌++◌, length, take, sum, refl, sym, ap, ap₂, ◌∙◌, subst, arith, eqb-true, eq-eqb, leb-true, le-leb}
 use Rattle.std.specs.List.{list_all}
 use Rattle.std.proofs.lemmas.List.{length-take-le}
 use Rattle.std.proofs.Math.Seq.{take-append_seam}
@@ -7,7 +7,7 @@ use Rattle.std.proofs.lemmas.Bool.Decides.{nat_tests}
 use Rattle.trees.specs.Edges.{is_tree}
 use Rattle.trees.specs.Decorated.{TreeShape, ends_differ}
 use Rattle.trees.specs.Words.{encoded}
-use Rattle.trees.specs.Walks.{walk_in, digits_of, place_of}
+use Rattle.trees.specs.Walks.{walk_in, digits_of}
 use Rattle.trees.specs.DegreeLists.{AreDegrees, rank_of}
 use Rattle.lists.specs.Digits.{AreDigits, joined}
 use Rattle.trees.specs.TreeNumbers.{bases, trees_from, tree_count, tree_of, number_of, digits_by}

@@ -1,5 +1,5 @@
 -- Trees of a shape as members of the list of all of them.
-use Rattle.std.proofs.Common.{◌≡◌, ◌<◌, Bool, true, ◌&&◌, eqb-true, eq-eqb, arith}
+use Rattle.std.proofs.Common.{◌≡◌, ◌<◌, Bool, true, eqb-true, eq-eqb}
 use Rattle.trees.specs.Decorated.{TreeShape}
 use Rattle.std.proofs.lemmas.Bool.{and_parts, and_from}
 use Rattle.trees.proofs.AllTrees.{in_all_trees, is_in_all_trees}

@@ -1,7 +1,7 @@
 -- The tree of a number: how many vertices it has, its number among the trees with as many, and what its digits give.
 -- The counts of trees are subtracted one after the other until the rest is below one of them; the digits of the rest
 -- are cut into the letters, the colours, the rank of the degrees and the marks.
-use Rattle.std.proofs.Common.{◌≡◌, ℕ, zero, suc, ◌+◌, ◌-◌, ◌*◌, ◌<◌, ◌≤◌, Bool, true, ◌&&◌, ◌==◌, nat_lt, if◌then◌else◌, List, [], ◌∷◌, ◌++◌, length, get_or, take, drop, replicate, All, ◌≢◌, inl, inr, ◌⊎◌, set, length-set, refl, sym, ap, ◌∙◌, subst, arith, lt-ltb, le-ltb, ltb-true}
+use Rattle.std.proofs.Common.{◌≡◌, ℕ, zero, suc, ◌+◌, ◌-◌, ◌*◌, ◌<◌, ◌≤◌, Bool, true, ◌&&◌, ◌==◌, nat_lt, List, [], ◌∷◌, ◌++◌, length, get_or, take, drop, replicate, All, ◌≢◌, inl, inr, ◌⊎◌, refl, sym, ap, ◌∙◌, subst, arith, ltb-true}
 use Rattle.std.specs.List.{list_all}
 use Rattle.std.proofs.lemmas.List.{get_or-append-add, length-append, length-drop, drop-replicate}
 use Rattle.std.proofs.lemmas.List.Elements.{All-from_get_or, All-same}
@@ -14,7 +14,7 @@ use Rattle.trees.specs.Words.{decoded}
 use Rattle.lists.specs.Digits.{AreDigits, split}
 use Rattle.lists.specs.Binomials.{choose}
 use Rattle.trees.specs.DegreeLists.{degree_lists}
-use Rattle.trees.specs.Walks.{walk_in, coloured, lifted}
+use Rattle.trees.specs.Walks.{walk_in, coloured}
 use Rattle.trees.specs.TreeNumbers.{bases, trees_with, trees_from, tree_count, tree_by, tree_from, tree_of}
 use Rattle.lists.proofs.Members.{each_of, in_place}
 use Rattle.trees.proofs.DegreeRanks.{ranked}
