@@ -56,6 +56,13 @@ impl MemoryFiles {
         }
     }
 
+    /// How many loads were asked for, up to 2^64 - 1.
+    pub fn loads(&self) -> u64
+        ensures { result ≡ self.now.next_call }
+    {
+        self.calls
+    }
+
     fn note_fault(&mut self, name: String)
         ensures noted { self.new ≡ record self.old {
           faults = counted self.old.faults;
@@ -194,6 +201,13 @@ impl MemorySink {
         ensures { result.now ≡ self.now.written }
     {
         self.bytes.as_slice()
+    }
+
+    /// How many writes and flushes were asked for, up to 2^64 - 1.
+    pub fn calls(&self) -> u64
+        ensures { result ≡ self.now.next_call }
+    {
+        self.calls
     }
 
     // Counts the call, and says whether it is one that is to fail.
