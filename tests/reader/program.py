@@ -3,6 +3,7 @@
     python3 tests/reader/program.py ARGUMENT ..      does what the program does with these arguments, slowly
 """
 
+import functools
 import pathlib
 import re
 import sys
@@ -66,9 +67,14 @@ def ends(arguments, folder="."):
     if request.command == "make":
         return Ending(0, out=SOME_TEXT)
     if request.command == "soak":
-        state = generated(int(request.plain))
-        return summed(state, MOST_TREES, b"soak %d\n" % int(request.plain))
+        return soaked(int(request.plain))
     return of_file(request, pathlib.Path(folder))
+
+
+@functools.cache
+def soaked(number):
+    """How `soak` of a number ends; its sums are made once, since few numbers are asked for and each has many trees."""
+    return summed(generated(number), MOST_TREES, b"soak %d\n" % number)
 
 
 def is_utf_8(word):
