@@ -9,7 +9,7 @@ use Rattle.arithmetic.proofs.FractionSums.{one-*ℤ, times-one, plus-zero, zero-
 use Rattle.localisation.specs.Weights.{tangent_product}
 use Rattle.localisation.specs.VertexFraction.{End, difference, product_of_differences, product_of_degrees, crossed_sum}
 use Rattle.vertex_factor.specs.Ends.{end, ends_of}
-use Rattle.vertex_factor.proofs.EndLaws.{crossed-cons}
+use Rattle.localisation.proofs.CrossedSums.{crossed-cons}
 use Rattle.table_sum.specs.Ends.{flag_at, product_of_flags, sum_of_flags, tangent_power, power_at_ends}
 
 -- ---- one flag more
