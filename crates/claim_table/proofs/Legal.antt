@@ -8,14 +8,14 @@ use mathlib.Core.Logic.{dite}
 use native.Mathlib.Decide.{ℕ_discrete, dec_lt}
 use Rattle.claim_table.specs.declared.claimer.Plan.{Plan}
 use Rattle.claim_table.specs.declared.claimer.Record.{Record}
-use Rattle.claim_table.specs.Counts.{bit, times, total, sum_below, once_below}
+use Rattle.claim_table.specs.Counts.{bit, occurrences, total, sum_below, once_below}
 use Rattle.claim_table.specs.Claims.{given, takes_of, IsShareOf, IsLegal}
-use Rattle.claim_table.proofs.Lists.{times-append, at_most_or, bit_eq, bit_ne, get_or-map, length-map_is, some_item, sum_below_add, sum_below_same, sum_below_none, total_by_times, mul_add}
+use Rattle.claim_table.proofs.Lists.{occurrences-append, at_most_or, bit_eq, bit_ne, get_or-map, length-map_is, some_item, sum_below_add, sum_below_same, sum_below_none, total_by_occurrences, mul_add}
 
 -- the last worker of a list to have taken the block, and else the owner that there was
 abbrev pub owner_after : ℕ → List Record → ℕ → ℕ
 owner_after b [] owner = owner
-owner_after b (r ∷ rs) owner = owner_after b rs (given (times b r.taken) r.worker owner)
+owner_after b (r ∷ rs) owner = owner_after b rs (given (occurrences b r.taken) r.worker owner)
 
 -- the workers are numbered from k on
 abbrev pub Numbered : ℕ → List Record → Type 0
@@ -37,18 +37,18 @@ by_block b worker o owners n x within e (no isnt) =
 
 -- one more block of the list has its owner
 pub give_more : (b worker o : ℕ) (owners taken : List ℕ) (i : ℕ) → i < length taken
-    → get_or taken i 0 < length owners → get_or owners b 0 ≡ given (times b (take i taken)) worker o
-    → get_or (set owners (get_or taken i 0) worker) b 0 ≡ given (times b (take (i + 1) taken)) worker o
+    → get_or taken i 0 < length owners → get_or owners b 0 ≡ given (occurrences b (take i taken)) worker o
+    → get_or (set owners (get_or taken i 0) worker) b 0 ≡ given (occurrences b (take (i + 1) taken)) worker o
 give_more b worker o owners taken i lt within e = rw (
   take_more taken i 0 lt,
-  times-append b (take i taken) (get_or taken i 0 ∷ []),
+  occurrences-append b (take i taken) (get_or taken i 0 ∷ []),
 )
-    (by_block b worker o owners (times b (take i taken)) (get_or taken i 0) within e
+    (by_block b worker o owners (occurrences b (take i taken)) (get_or taken i 0) within e
     (ℕ_discrete (get_or taken i 0) b))
 
 same_owner : (b o : ℕ) (rs : List Record) → total (takes_of b) rs ≡ 0 → owner_after b rs o ≡ o
 same_owner b o [] e = refl
-same_owner b o (r ∷ rs) e = let z : times b r.taken ≡ 0 = omega arith in
+same_owner b o (r ∷ rs) e = let z : occurrences b r.taken ≡ 0 = omega arith in
     ap (λ n. owner_after b rs (given n r.worker o)) z ∙ same_owner b o rs (omega arith)
 
 rest_numbered : (k : ℕ) (r : Record) (rs : List Record) → Numbered k (r ∷ rs) → Numbered (k + 1) rs
@@ -61,12 +61,12 @@ owner_above b o k (r ∷ rs) h e =
     dite (dec_lt 0 (total (takes_of b) rs))
     (λ more. omega (
       arith,
-      owner_above b (given (times b r.taken) r.worker o) (k + 1) rs
+      owner_above b (given (occurrences b r.taken) r.worker o) (k + 1) rs
           (rest_numbered k r rs h) more,
     ))
     (λ none. let z : total (takes_of b) rs ≡ 0 = omega arith in
-    let s = same_owner b (given (times b r.taken) r.worker o) rs z in
-    omega (arith, given_some (times b r.taken) r.worker o (omega arith)))
+    let s = same_owner b (given (occurrences b r.taken) r.worker o) rs z in
+    omega (arith, given_some (occurrences b r.taken) r.worker o (omega arith)))
 
 -- the owner of a block that was taken is a worker of the list
 owner_below : (b o k : ℕ) (rs : List Record) → Numbered k rs → 0 < total (takes_of b) rs
@@ -77,39 +77,39 @@ owner_below b o k (r ∷ rs) h e =
     dite (dec_lt 0 (total (takes_of b) rs))
     (λ more. omega (
       arith,
-      owner_below b (given (times b r.taken) r.worker o) (k + 1) rs
+      owner_below b (given (occurrences b r.taken) r.worker o) (k + 1) rs
           (rest_numbered k r rs h) more,
     ))
     (λ none. let z : total (takes_of b) rs ≡ 0 = omega arith in
-    let s = same_owner b (given (times b r.taken) r.worker o) rs z in
-    omega (arith, given_some (times b r.taken) r.worker o (omega arith)))
+    let s = same_owner b (given (occurrences b r.taken) r.worker o) rs z in
+    omega (arith, given_some (occurrences b r.taken) r.worker o (omega arith)))
 
 -- the owner of a block that was taken once is its taker
 pub taker_owns : (b o k : ℕ) (rs : List Record) → Numbered k rs → total (takes_of b) rs ≡ 1 → (j : ℕ) (d : Record)
-    → j < length rs → times b (get_or rs j d).taken ≡ bit (eqb (owner_after b rs o) (k + j))
+    → j < length rs → occurrences b (get_or rs j d).taken ≡ bit (eqb (owner_after b rs o) (k + j))
 taker_owns b o k [] h e j d lt = absurd (omega arith)
 taker_owns b o k (r ∷ rs) h e zero d lt = let first : r.worker ≡ k + 0 = h 0 r (omega arith) in
-    let w : ℕ = given (times b r.taken) r.worker o in
-    dite (dec_lt 0 (times b r.taken)) (λ some_there. let z : total (takes_of b) rs ≡ 0 = omega arith in
+    let w : ℕ = given (occurrences b r.taken) r.worker o in
+    dite (dec_lt 0 (occurrences b r.taken)) (λ some_there. let z : total (takes_of b) rs ≡ 0 = omega arith in
     let s = same_owner b w rs z in
-    let g = given_some (times b r.taken) r.worker o some_there in
+    let g = given_some (occurrences b r.taken) r.worker o some_there in
     omega (arith, bit_eq (owner_after b rs w) (k + 0) (omega arith)))
     (λ none. let a = owner_above b w (k + 1) rs (rest_numbered k r rs h) (omega arith) in
     omega (arith, bit_ne (owner_after b rs w) (k + 0) (λ i. omega arith)))
 taker_owns b o k (r ∷ rs) h e (suc j) d lt = let first : r.worker ≡ k + 0 = h 0 r (omega arith) in
-    let w : ℕ = given (times b r.taken) r.worker o in
-    dite (dec_lt 0 (times b r.taken)) (λ some_there. let z : total (takes_of b) rs ≡ 0 = omega arith in
+    let w : ℕ = given (occurrences b r.taken) r.worker o in
+    dite (dec_lt 0 (occurrences b r.taken)) (λ some_there. let z : total (takes_of b) rs ≡ 0 = omega arith in
     let s = same_owner b w rs z in
-    let g = given_some (times b r.taken) r.worker o some_there in
+    let g = given_some (occurrences b r.taken) r.worker o some_there in
     let m = at_most_or (takes_of b) rs j d (omega arith) in
     omega (arith, bit_ne (owner_after b rs w) (k + suc j) (λ i. omega arith)))
     (λ none. let i = taker_owns b w (k + 1) rs (rest_numbered k r rs h) (omega arith) j d (omega arith) in
     let p : k + 1 + j ≡ k + suc j = omega arith in i ∙ ap (λ n. bit (eqb (owner_after b rs w) n)) p)
 
 pub owner_after-one : (b o : ℕ) (rs : List Record) (r : Record)
-    → owner_after b (rs ++ r ∷ []) o ≡ given (times b r.taken) r.worker (owner_after b rs o)
+    → owner_after b (rs ++ r ∷ []) o ≡ given (occurrences b r.taken) r.worker (owner_after b rs o)
 owner_after-one b o [] r = refl
-owner_after-one b o (s ∷ rs) r = owner_after-one b (given (times b s.taken) s.worker o) rs r
+owner_after-one b o (s ∷ rs) r = owner_after-one b (given (occurrences b s.taken) s.worker o) rs r
 
 is_below : (b n w k : ℕ) → b < n → bit (ltb b n && eqb w k) ≡ bit (eqb w k)
 is_below b n w k h = ap (λ t. bit (t && eqb w k)) (lt-ltb b n h)
@@ -136,25 +136,25 @@ module _ {A : Type 0} (done : A → Record) (seats : List A) (p : Plan) (all : l
   module _ (owners : List ℕ) (o : ℕ → ℕ) (count : length owners ≡ p.blocks)
       (owns : (b : ℕ) → b < length owners → get_or owners b 0 ≡ owner_after b (map done seats) (o b)) where
     within : (worker : ℕ) (s : A) → worker < length seats → (b : ℕ) → b < length owners
-        → times b (done (get_or seats worker s)).taken ≡ bit (ltb b (length owners) && eqb (get_or owners b 0) worker)
+        → occurrences b (done (get_or seats worker s)).taken ≡ bit (ltb b (length owners) && eqb (get_or owners b 0) worker)
     within worker s lt b less = let n = length-map_is done seats in
         let one_there = once_within p.blocks b (omega arith) in
         let there = once b in
         let taker = taker_owns b (o b) 0 (map done seats) numbered (omega arith) worker (done s) (omega arith) in
-        let same = ap (λ (q : Record). times b q.taken) (get_or-map done seats worker s (done s) lt) in
+        let same = ap (λ (q : Record). occurrences b q.taken) (get_or-map done seats worker s (done s) lt) in
         let z : 0 + worker ≡ worker = omega arith in
         sym same ∙ taker ∙ ap (λ m. bit (eqb (owner_after b (map done seats) (o b)) m)) z
         ∙ ap (λ m. bit (eqb m worker)) (sym (owns b less))
         ∙ sym (is_below b (length owners) (get_or owners b 0) worker less)
 
     past : (worker : ℕ) (s : A) → worker < length seats → (b : ℕ) → length owners ≤ b
-        → times b (done (get_or seats worker s)).taken ≡ bit (ltb b (length owners) && eqb (get_or owners b 0) worker)
+        → occurrences b (done (get_or seats worker s)).taken ≡ bit (ltb b (length owners) && eqb (get_or owners b 0) worker)
     past worker s lt b more = let n = length-map_is done seats in
         let none_there = once_past p.blocks b (omega arith) in
         let there = once b in
         let few = at_most_or (takes_of b) (map done seats) worker (done s) (omega arith) in
-        let same = ap (λ (q : Record). times b q.taken) (get_or-map done seats worker s (done s) lt) in
-        let z : times b (done (get_or seats worker s)).taken ≡ 0 = omega arith in z
+        let same = ap (λ (q : Record). occurrences b q.taken) (get_or-map done seats worker s (done s) lt) in
+        let z : occurrences b (done (get_or seats worker s)).taken ≡ 0 = omega arith in z
         ∙ sym (not_below b (length owners) (get_or owners b 0) worker more)
 
     pub legal : IsLegal p owners (map (λ s. (done s).taken) seats)
@@ -166,7 +166,7 @@ module _ {A : Type 0} (done : A → Record) (seats : List A) (p : Plan) (all : l
           let n = length-map_is done seats in
           let e = owns b (omega arith) in omega (arith, owner_below b (o b) 0 (map done seats) numbered (omega arith));
       shares = λ worker lt b. let s : A = some_item seats (omega arith) in
-          let is = ap (times b) (get_or-map (λ q. (done q).taken) seats worker s [] (omega arith)) in
+          let is = ap (occurrences b) (get_or-map (λ q. (done q).taken) seats worker s [] (omega arith)) in
           is ∙ dite (dec_lt b (length owners)) (λ less. within worker s (omega arith) b less)
           (λ not. past worker s (omega arith) b (omega arith));
     }
@@ -192,9 +192,9 @@ between_all w n h = grind (arith, nat_tests)
 -- f of each worker's list, which has each block of this worker once
 sum_of_share : (owners : List ℕ) (worker : ℕ) (taken : List ℕ) (f : ℕ → ℕ) → IsShareOf owners worker taken
     → total f taken ≡ sum_below (length owners) (λ b. bit (eqb (get_or owners b 0) worker) * f b)
-sum_of_share owners worker taken f share = total_by_times (length owners) f taken (λ b there. let s = share b in
+sum_of_share owners worker taken f share = total_by_occurrences (length owners) f taken (λ b there. let s = share b in
     below_of b (length owners) (eqb (get_or owners b 0) worker) (omega arith))
-    ∙ sum_below_same (length owners) (λ b. times b taken * f b) (λ b. bit (eqb (get_or owners b 0) worker) * f b)
+    ∙ sum_below_same (length owners) (λ b. occurrences b taken * f b) (λ b. bit (eqb (get_or owners b 0) worker) * f b)
     (λ b lt. ap (λ n. n * f b) (share b ∙ is_below b (length owners) (get_or owners b 0) worker lt))
 
 sum_of_shares : (owners : List ℕ) (k : ℕ) (taken : List (List ℕ)) (f : ℕ → ℕ)

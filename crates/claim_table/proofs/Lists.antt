@@ -6,7 +6,7 @@ use mathlib.Core.Logic.{dite}
 use mathlib.Core.Option.{some, some-injective, some-ne-none}
 use native.Mathlib.Decide.{ℕ_discrete, dec_lt}
 use lib.ListN.{get_elem?}
-use Rattle.claim_table.specs.Counts.{bit, times, up_to, total, sum_below, nothing_bad, least_of}
+use Rattle.claim_table.specs.Counts.{bit, occurrences, up_to, total, sum_below, nothing_bad, least_of}
 
 pub total-set : {A : Type 0} (f : A → ℕ) (xs : List A) (i : ℕ) (x y : A) → get_elem? xs i ≡ some x
     → total f (set xs i y) + f x ≡ total f xs + f y
@@ -55,9 +55,9 @@ pub total_nothing : {A : Type 0} (views : List A) (f : A → ℕ) (v : A) → f 
     → total f (views ++ v ∷ []) ≡ total f views
 total_nothing views f v e = omega (arith, total-append f views (v ∷ []))
 
-pub times-append : (x : ℕ) (xs ys : List ℕ) → times x (xs ++ ys) ≡ times x xs + times x ys
-times-append x [] ys = omega arith
-times-append x (y ∷ xs) ys = omega (arith, times-append x xs ys)
+pub occurrences-append : (x : ℕ) (xs ys : List ℕ) → occurrences x (xs ++ ys) ≡ occurrences x xs + occurrences x ys
+occurrences-append x [] ys = omega arith
+occurrences-append x (y ∷ xs) ys = omega (arith, occurrences-append x xs ys)
 
 pub up_to-append : (x : ℕ) (xs ys : List ℕ) → up_to x (xs ++ ys) ≡ up_to x xs + up_to x ys
 up_to-append x [] ys = omega arith
@@ -66,9 +66,9 @@ up_to-append x (y ∷ xs) ys = omega (arith, up_to-append x xs ys)
 same_le : (y x : ℕ) → bit (eqb y x) ≤ bit (leb y x)
 same_le y x = grind (arith, nat_tests)
 
-times_le_up_to : (x : ℕ) (xs : List ℕ) → times x xs ≤ up_to x xs
-times_le_up_to x [] = omega arith
-times_le_up_to x (y ∷ ys) = omega (arith, times_le_up_to x ys, same_le y x)
+occurrences_le_up_to : (x : ℕ) (xs : List ℕ) → occurrences x xs ≤ up_to x xs
+occurrences_le_up_to x [] = omega arith
+occurrences_le_up_to x (y ∷ ys) = omega (arith, occurrences_le_up_to x ys, same_le y x)
 
 pub at_least : {n x : ℕ} → (x < n → ⊥) → n ≤ x
 at_least h = omega arith
@@ -121,14 +121,14 @@ least_is n xs most some_there none = let m = least_most xs in
     omega (arith, least_there (least_of xs) xs (omega arith) (omega arith))))
     (λ less. omega (arith, some_there n (omega arith) (omega arith), none_less_than_least n xs less))
 
-pub stands : (xs : List ℕ) (i : ℕ) → i < length xs → 0 < times (get_or xs i 0) xs
+pub stands : (xs : List ℕ) (i : ℕ) → i < length xs → 0 < occurrences (get_or xs i 0) xs
 stands [] i lt = absurd (omega arith)
 stands (x ∷ xs) zero lt = omega (arith, bit_eq x x refl)
 stands (x ∷ xs) (suc i) lt = omega (arith, stands xs i (omega arith))
 
-pub below_one : (b n blocks : ℕ) (xs : List ℕ) → (0 < times b xs → b < blocks) → n < blocks
-    → 0 < times b (xs ++ n ∷ []) → b < blocks
-below_one b n blocks xs was lt some_there = let a = times-append b xs (n ∷ []) in
+pub below_one : (b n blocks : ℕ) (xs : List ℕ) → (0 < occurrences b xs → b < blocks) → n < blocks
+    → 0 < occurrences b (xs ++ n ∷ []) → b < blocks
+below_one b n blocks xs was lt some_there = let a = occurrences-append b xs (n ∷ []) in
     dite (ℕ_discrete n b) (λ is. omega arith) (λ isnt. let z = bit_ne n b isnt in was (omega arith))
 
 pub each_push : {A : Type 0} (P : ℕ → A → Type 0) (xs : List A) (x : A)
@@ -197,7 +197,7 @@ pub all_at_most : (n : ℕ) (xs : List ℕ) → ((x : ℕ) → x < n → up_to x
 all_at_most n xs none k d lt = let x : ℕ = get_or xs k d in
     let same : get_or xs k 0 ≡ get_or xs k d = get_or_within xs k 0 d lt in
     let there = stands xs k lt in
-    let p = times_le_up_to (get_or xs k 0) xs in at_least (λ less. omega (arith, none (get_or xs k 0) (omega arith)))
+    let p = occurrences_le_up_to (get_or xs k 0) xs in at_least (λ less. omega (arith, none (get_or xs k 0) (omega arith)))
 
 -- no number of the list is below n, so none is at most a lesser one
 pub none_up_to : (n x : ℕ) (xs : List ℕ) → x < n → All (λ number. n ≤ number) xs → up_to x xs ≡ 0
@@ -206,7 +206,7 @@ none_up_to n x (y ∷ ys) less h = let a = h 0 y (omega arith) in
     let b = bit_not_le y x (omega arith) in omega (arith, none_up_to n x ys less (λ k d lt. h (suc k) d (omega arith)))
 
 -- what holds at each index of a list holds of each number in it
-pub each_of_all : (n : ℕ) (xs : List ℕ) → All (λ x. n ≤ x) xs → (x : ℕ) → 0 < times x xs → n ≤ x
+pub each_of_all : (n : ℕ) (xs : List ℕ) → All (λ x. n ≤ x) xs → (x : ℕ) → 0 < occurrences x xs → n ≤ x
 each_of_all n [] h x there = absurd (omega arith)
 each_of_all n (y ∷ ys) h x there = dite (ℕ_discrete y x) (λ is. omega (arith, h 0 y (omega arith)))
     (λ isnt. let z = bit_ne y x isnt in each_of_all n ys (λ k d lt. h (suc k) d (omega arith)) x (omega arith))
@@ -261,14 +261,14 @@ pub mul_add : (m n k : ℕ) → (m + n) * k ≡ m * k + n * k
 mul_add m n k = omega arith
 
 -- a sum over numbers below n, each as often as it stands in the list
-pub total_by_times : (n : ℕ) (f : ℕ → ℕ) (xs : List ℕ) → ((x : ℕ) → 0 < times x xs → x < n)
-    → total f xs ≡ sum_below n (λ b. times b xs * f b)
-total_by_times n f [] h = sym (sum_below_none n (λ b. 0 * f b) (λ b lt. omega arith))
-total_by_times n f (x ∷ xs) h = let here = bit_eq x x refl in
-    let rest = total_by_times n f xs (λ y there. h y (omega arith)) in
+pub total_by_occurrences : (n : ℕ) (f : ℕ → ℕ) (xs : List ℕ) → ((x : ℕ) → 0 < occurrences x xs → x < n)
+    → total f xs ≡ sum_below n (λ b. occurrences b xs * f b)
+total_by_occurrences n f [] h = sym (sum_below_none n (λ b. 0 * f b) (λ b lt. omega arith))
+total_by_occurrences n f (x ∷ xs) h = let here = bit_eq x x refl in
+    let rest = total_by_occurrences n f xs (λ y there. h y (omega arith)) in
     omega (
       arith,
       sum_below_at n x f (h x (omega arith)),
-      sum_below_add n (λ b. bit (eqb x b) * f b) (λ b. times b xs * f b) (λ b. times b (x ∷ xs) * f b)
-          (λ b lt. mul_add (bit (eqb x b)) (times b xs) (f b)),
+      sum_below_add n (λ b. bit (eqb x b) * f b) (λ b. occurrences b xs * f b) (λ b. occurrences b (x ∷ xs) * f b)
+          (λ b lt. mul_add (bit (eqb x b)) (occurrences b xs) (f b)),
     )

@@ -15,7 +15,7 @@ use Rattle.claim_table.specs.Counts.{bit, total, nothing_bad}
 use Rattle.claim_table.specs.Claims.{fresh, with_taken, made_dry, with_reported, with_seen, taken_count, dry_count, takes_of}
 use Rattle.claim_table.specs.Views.{view, with_only, NewSeat, made_from, dealt_left, dealt_right, joined, spent}
 use Rattle.claim_table.specs.Cursor.{cursor, bad, itself, only, after_take, CursorHolds, Takes, Reports, Sees, opening_view}
-use Rattle.claim_table.proofs.Lists.{times-append}
+use Rattle.claim_table.proofs.Lists.{occurrences-append}
 use Rattle.claim_table.proofs.BadWord.{reports_to}
 use Rattle.claim_table.proofs.Views.{one, over, over_only, over_at, over_le, knows_blocks}
 use Rattle.claim_table.proofs.Records.{records_stay, word_stays, word_reports, word_seen}
@@ -77,7 +77,7 @@ module _ (p : Plan) (words : List ℕ) (views : List (View Record)) (id : ℕ) (
       arith,
       moved r (takes_of x),
       h.each_once x,
-      times-append x (only v).taken (n ∷ []),
+      occurrences-append x (only v).taken (n ∷ []),
       one_more n p.blocks x lt,
     ));
     takes = rw (cursor_set (n + 1)) (omega (arith, took, h.takes));

@@ -2,7 +2,7 @@
 use Rattle.std.specs.Prelude.{◌≡◌, ℕ, zero, suc, ◌<◌, ◌==◌, ◌&&◌, true, false, List, [], ◌∷◌, ◌++◌, length, slice_index, slice_index_or, nat_lt}
 use Rattle.claim_table.specs.declared.claimer.Plan.{Plan}
 use Rattle.claim_table.specs.declared.claimer.Record.{Record}
-use Rattle.claim_table.specs.Counts.{bit, times}
+use Rattle.claim_table.specs.Counts.{bit, occurrences}
 
 -- a round of this many blocks for this many workers
 abbrev pub plan : ℕ → ℕ → Plan
@@ -42,7 +42,7 @@ dry_count r = bit r.dry
 
 -- how often the record has taken this block
 abbrev pub takes_of : ℕ → Record → ℕ
-takes_of block r = times block r.taken
+takes_of block r = occurrences block r.taken
 
 -- all numbers that these workers reported
 abbrev pub all_reported : List Record → List ℕ
@@ -52,7 +52,7 @@ all_reported (r ∷ rs) = r.reported ++ all_reported rs
 -- the list has each block of this worker once, and nothing else
 abbrev pub IsShareOf : List ℕ → ℕ → List ℕ → Type 0
 IsShareOf owners worker taken =
-    (block : ℕ) → times block taken ≡ bit (nat_lt block (length owners) && slice_index owners block == worker)
+    (block : ℕ) → occurrences block taken ≡ bit (nat_lt block (length owners) && slice_index owners block == worker)
 
 -- Claims of a round are legal: each block has one owner, a worker of the round,
 -- and the blocks of each worker are those that its takes answered, each once.

@@ -6,9 +6,9 @@ abbrev pub bit : Bool → ℕ
 bit b = cond b 1 0
 
 -- how often x stands in the list
-abbrev pub times : ℕ → List ℕ → ℕ
-times x [] = 0
-times x (y ∷ ys) = bit (y == x) + times x ys
+abbrev pub occurrences : ℕ → List ℕ → ℕ
+occurrences x [] = 0
+occurrences x (y ∷ ys) = bit (y == x) + occurrences x ys
 
 -- how many numbers of the list are at most x
 abbrev pub up_to : ℕ → List ℕ → ℕ

@@ -4,7 +4,7 @@ use Rattle.atomic_table.specs.Table.{State, Me, Step}
 use Rattle.claim_table.specs.declared.claimer.Plan.{Plan}
 use Rattle.claim_table.specs.declared.claimer.Record.{Record}
 use Rattle.claim_table.specs.declared.view.View.{View}
-use Rattle.claim_table.specs.Counts.{times, up_to, total, once_below}
+use Rattle.claim_table.specs.Counts.{occurrences, up_to, total, once_below}
 use Rattle.claim_table.specs.Claims.{fresh, with_taken, made_dry, with_reported, with_seen, taken_count, dry_count, takes_of}
 use Rattle.claim_table.specs.Views.{view, all_records, first_of, with_only, made_from, AreRecords, IsLeastReported}
 
@@ -51,7 +51,7 @@ abbrev pub Takes : {S : Type 0} → Step S → Me S (View Record) → ℕ → Me
 Takes s me found after =
     (after ≡ (with_only me.0 (after_take me.0 found), me.1))
     × (length (only me.0).taken ≤ found)
-    × (times found (only me.0).taken ≡ 0)
+    × (occurrences found (only me.0).taken ≡ 0)
 
 -- a report appends the number
 abbrev pub Reports : {S : Type 0} → Step S → Me S (View Record) → ℕ → Me S (View Record) → Type 0

@@ -2,7 +2,7 @@
 ghost use Rattle.std.specs.Prelude.{◌≡◌, ℕ, ◌+◌, ◌<◌, ◌≤◌, true, length, slice_index_or, map, All, IfOk, IfSome, IfNone};
 ghost use Rattle.claim_table.specs.declared.claimer.Plan.{Plan};
 ghost use Rattle.claim_table.specs.declared.claimer.Record.{Record};
-ghost use Rattle.claim_table.specs.Counts.{times, nothing_bad, least_of};
+ghost use Rattle.claim_table.specs.Counts.{occurrences, nothing_bad, least_of};
 ghost use Rattle.claim_table.specs.Claims.{plan, fresh, with_taken, made_dry, with_reported, with_seen, all_reported, IsLegal};
 
 use crate::owners::Owners;
@@ -101,7 +101,7 @@ pub trait Claimer {
         ensures free { is_free self.new }
         ensures some { IfSome result (λ b. record_of self.new ≡ with_taken (record_of self.old) b.number) }
         ensures once { IfSome result (λ b. (b.number < (plan_of board.now).blocks)
-            × (times b.number (record_of self.old).taken ≡ 0)) }
+            × (occurrences b.number (record_of self.old).taken ≡ 0)) }
         ensures none { IfNone result (record_of self.new ≡ made_dry (record_of self.old)) }
         ensures none_left { IfNone result (found_none self.old self.new) }
         ensures room { length (record_of self.new).taken ≤ (plan_of board.now).blocks };

@@ -1,6 +1,6 @@
 // Claims by one cursor, to which all workers add: the rule of its words, its seats and their calls.
 ghost use Rattle.std.specs.Prelude.{◌≡◌, ℕ, ◌+◌, ◌<◌, ◌≤◌, true, List, [], ◌∷◌, length, map, slice_index_or, vec_len, vec_capacity, All, IfOk, IfSome, IfNone};
-ghost use Rattle.claim_table.specs.Counts.{times, least_of};
+ghost use Rattle.claim_table.specs.Counts.{occurrences, least_of};
 ghost use Rattle.claim_table.specs.Claims.{with_taken, made_dry, all_reported, IsLegal};
 ghost use Rattle.claim_table.specs.Cursor.{only, opening_view};
 
@@ -80,7 +80,7 @@ pub struct CursorSeat {
     ghost dries: { (only seat.me.0).dry ≡ dry },
     ghost takes: { (only seat.me.0).taken ≡ taken.items },
     ghost few: { vec_len taken ≤ seat.me.0.blocks },
-    ghost below: { (b : ℕ) → 0 < times b taken.items → b < seat.me.0.blocks },
+    ghost below: { (b : ℕ) → 0 < occurrences b taken.items → b < seat.me.0.blocks },
     ghost room: { seat.me.0.blocks ≤ vec_capacity taken },
 }
 
@@ -138,7 +138,7 @@ impl Claimer for CursorSeat {
         ensures seat { IsSeatOf self.new board.now }
         ensures some { IfSome result (λ b. seat_record self.new ≡ with_taken (seat_record self.old) b.number) }
         ensures once { IfSome result (λ b. (b.number < (board_plan board.now).blocks)
-            × (times b.number (seat_record self.old).taken ≡ 0)) }
+            × (occurrences b.number (seat_record self.old).taken ≡ 0)) }
         ensures none { IfNone result (seat_record self.new ≡ made_dry (seat_record self.old)) }
         ensures none_left { IfNone result (FoundNone self.old self.new) }
         ensures room { length (seat_record self.new).taken ≤ (board_plan board.now).blocks }

@@ -1,6 +1,6 @@
 // The owners of the blocks of a round, which a claimer gives when the round ends.
 ghost use Rattle.std.specs.Prelude.{◌≡◌, ℕ, ◌<◌, ◌≤◌, ◌==◌, length, replicate, slice_index, slice_set, count_by, IfOk};
-ghost use Rattle.claim_table.specs.Counts.{times};
+ghost use Rattle.claim_table.specs.Counts.{occurrences};
 ghost use Rattle.claim_table.specs.Claims.{given};
 
 use crate::claimer::Block;
@@ -69,10 +69,10 @@ impl Owners {
     }
     /// Makes the worker the owner of each of these blocks. All other owners stay.
     pub fn give(&mut self, taken: &[u32], worker: u32)
-        requires { (b : ℕ) → 0 < times b taken.now → b < length self.old }
+        requires { (b : ℕ) → 0 < occurrences b taken.now → b < length self.old }
         ensures len { length self.new ≡ length self.old }
         ensures owners { (b : ℕ) → b < length self.old
-            → slice_index self.new b ≡ given (times b taken.now) worker (slice_index self.old b) }
+            → slice_index self.new b ≡ given (occurrences b taken.now) worker (slice_index self.old b) }
     {
         for block in taken {
             self.set(Block { number: *block }, worker);

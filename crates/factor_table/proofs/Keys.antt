@@ -10,7 +10,7 @@ use Rattle.factor_table.specs.declared.key.Key.{Key}
 use Rattle.factor_table.specs.declared.layout.Sizes.{Sizes}
 use Rattle.factor_table.specs.declared.parameters.Parameters.{Parameters}
 use Rattle.factor_table.specs.KeyPlaces.{AreWithinLimits, first_factor, words_of, word_place}
-use Rattle.factor_table.specs.Factors.{sizes_of, modulus_in, class_at, fraction_of, IsKeyOf, IsWordOf, word_of}
+use Rattle.factor_table.specs.Factors.{sizes_of, modulus_in, class_at, fraction_of, IsKeyOf, IsWordOf, answer_word}
 use Rattle.factor_table.specs.Rule.{IsFactorAt}
 use Rattle.factor_table.proofs.OneToOne.{place_from, place_below, one_to_one}
 use Rattle.factor_table.proofs.Words.{word_of_answer}
@@ -27,12 +27,12 @@ below_count p key m place k lt e =
 -- the word of the answer for a key is one for its place
 pub written : (p : Parameters) (key : Key) (m place word modulo : ℕ) (answer : Result ℕ NoUnit) → IsKeyOf p key
     → m < length p.moduli → place ≡ word_place (sizes_of p) key m
-    → slice_get p.moduli m ≡ Some modulo → GivesResidue modulo (fraction_of p key) answer → word ≡ word_of answer
+    → slice_get p.moduli m ≡ Some modulo → GivesResidue modulo (fraction_of p key) answer → word ≡ answer_word answer
     → IsFactorAt p place word
 written p key m place word modulo answer k lt at get gives is =
-    let here : IsWordOf modulo (fraction_of p key) (word_of answer) =
+    let here : IsWordOf modulo (fraction_of p key) (answer_word answer) =
     word_of_answer modulo (fraction_of p key) answer gives in
-    let now : IsWordOf (modulus_in p m) (fraction_of p key) (word_of answer) = subst (λ n. IsWordOf n (fraction_of p key) (word_of answer)) (sym (get_or_from_slice_get p.moduli m modulo 0 get)) here in record {
+    let now : IsWordOf (modulus_in p m) (fraction_of p key) (answer_word answer) = subst (λ n. IsWordOf n (fraction_of p key) (answer_word answer)) (sym (get_or_from_slice_get p.moduli m modulo 0 get)) here in record {
       key = key;
       modulus = m;
       is_key = k;

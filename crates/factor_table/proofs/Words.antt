@@ -3,15 +3,15 @@ use Rattle.std.proofs.Common.{◌≡◌, ◌≢◌, ℕ, ◌-◌, inl, inr, Resu
 use Rattle.arithmetic.specs.Fractions.{Fraction, IsResidue}
 use Rattle.residue.specs.declared.errors.NoUnit.{NoUnit}
 use Rattle.residue.specs.Answers.{GivesResidue}
-use Rattle.factor_table.specs.Factors.{IsWordOf, word_of}
+use Rattle.factor_table.specs.Factors.{IsWordOf, answer_word}
 
 -- the word of an answer that gives the residue
 pub word_of_answer : (m : ℕ) (f : Fraction) (answer : Result ℕ NoUnit) → GivesResidue m f answer
-    → IsWordOf m f (word_of answer)
+    → IsWordOf m f (answer_word answer)
 word_of_answer m f (Ok x) g = inl (x, g.value, refl)
 word_of_answer m f (Err e) g = inr (g.refused.0 refl, refl)
 
-pub word_not_zero : (answer : Result ℕ NoUnit) → word_of answer ≢ 0
+pub word_not_zero : (answer : Result ℕ NoUnit) → answer_word answer ≢ 0
 word_not_zero (Ok x) = λ h. omega arith
 word_not_zero (Err e) = λ h. omega arith
 

@@ -76,6 +76,6 @@ IsWordOf m f word =
     ⊎ ((gcd (nat_abs f.bottom) m ≢ 1) × (word ≡ 18446744073709551615))
 
 -- the word of an answer
-abbrev pub word_of : Result ℕ NoUnit → ℕ
-word_of (Ok x) = x + 1
-word_of (Err e) = 18446744073709551615
+abbrev pub answer_word : Result ℕ NoUnit → ℕ
+answer_word (Ok x) = x + 1
+answer_word (Err e) = 18446744073709551615

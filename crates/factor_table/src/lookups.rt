@@ -13,7 +13,7 @@ ghost use Rattle.localisation.specs.ClassValue.{class_edge, class_vertex};
 ghost use Rattle.vertex_factor.specs.Ends.{end, flag_fraction};
 ghost use Rattle.factor_table.specs.declared.key.Key.{Key};
 ghost use Rattle.factor_table.specs.declared.table.Move.{Move};
-ghost use Rattle.factor_table.specs.Factors.{modulus_in, class_at, IsKeyOf, tip_fraction, IsWordOf, word_of};
+ghost use Rattle.factor_table.specs.Factors.{modulus_in, class_at, IsKeyOf, tip_fraction, IsWordOf, answer_word};
 ghost use Rattle.factor_table.specs.Seats.{parameters_of, IsSeatOf, IsFactorIn, known_of, moves_of, place_in, LooksOnce};
 
 use crate::key::Key;
@@ -287,7 +287,7 @@ impl FactorTable {
 fn word_for(answer: Result<u64, NoUnit>, modulus: u64) -> u64
     requires modulus { modulus < 2 ^ 62 }
     requires answer { IfOk answer (λ x. x < modulus) }
-    ensures { result ≡ word_of answer }
+    ensures { result ≡ answer_word answer }
 {
     match answer {
         Ok(residue) => residue + 1,

@@ -10,9 +10,9 @@ use lib.ListN.{get_elem?}
 use Rattle.atomic_table.proofs.Lists.{set_here}
 use Rattle.claim_table.specs.declared.claimer.Plan.{Plan}
 use Rattle.claim_table.specs.declared.view.View.{View}
-use Rattle.claim_table.specs.Counts.{bit, times, once_below}
+use Rattle.claim_table.specs.Counts.{bit, occurrences, once_below}
 use Rattle.claim_table.specs.Views.{with_only}
-use Rattle.claim_table.proofs.Lists.{times-append}
+use Rattle.claim_table.proofs.Lists.{occurrences-append}
 use Rattle.claim_table.proofs.Views.{over, over_only, over_at, knows_blocks}
 use Rattle.claim_table.proofs.Records.{is_worker, IsLeastOver, records_stay, word_stays}
 use Rattle.range_deque.specs.declared.history.RangeRecord.{RangeRecord}
@@ -215,7 +215,7 @@ module _ (p : Plan) (words : List ℕ) (views : List (View RangeRecord)) (id : �
           arith,
           in_next b,
           front_leaves b (low w) (high w) lt,
-          times-append b (only v).done.taken (low w ∷ []),
+          occurrences-append b (only v).done.taken (low w ∷ []),
         ))
         (omega (arith, high_next, h.ends i mine))
         (λ x n. not_self r x false (other x n) ∙ sym (not_self (only v) x (only v).done.dry (other x n)))
@@ -268,14 +268,14 @@ module _ (p : Plan) (words : List ℕ) (views : List (View RangeRecord)) (id : �
 
     -- the first block of the word is a block that this worker has not taken
     pub new_block : low (get_or words i 0) < high (get_or words i 0)
-        → (low (get_or words i 0) < v.blocks) × (times (low (get_or words i 0)) (only v).done.taken ≡ 0)
+        → (low (get_or words i 0) < v.blocks) × (occurrences (low (get_or words i 0)) (only v).done.taken ≡ 0)
         × (length (only v).done.taken < v.blocks)
     new_block lt = (omega (arith, blocks, h.ends i mine), not_taken, omega (arith, blocks, shorter))
       where
         blocks : v.blocks ≡ p.blocks
         blocks = knows_blocks p.blocks views id v h.records.of_round one_record at
 
-        not_taken : times (low w) (only v).done.taken ≡ 0
+        not_taken : occurrences (low w) (only v).done.taken ≡ 0
         not_taken =
             omega (
               arith,

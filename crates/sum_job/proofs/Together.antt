@@ -12,9 +12,9 @@ use Rattle.arithmetic.proofs.Residues.AreResidues.{none, one}
 use Rattle.classes.specs.declared.class.Term.{Term}
 use Rattle.localisation.specs.Contribution.{partial_sum}
 use Rattle.localisation.proofs.PartialSums.{partial_sum-cut, partial_sum-none}
-use Rattle.claim_table.specs.Counts.{bit, times, total, sum_below}
+use Rattle.claim_table.specs.Counts.{bit, occurrences, total, sum_below}
 use Rattle.claim_table.specs.Claims.{plan, IsLegal}
-use Rattle.claim_table.proofs.Lists.{times-append, bit_eq, bit_ne}
+use Rattle.claim_table.proofs.Lists.{occurrences-append, bit_eq, bit_ne}
 use mathlib.Core.Logic.{dite}
 use native.Mathlib.Decide.{ℕ_discrete}
 use Rattle.claim_table.proofs.Legal.{sum_of_claims}
@@ -28,7 +28,7 @@ record IsSplit (x : ℕ) (ys : List ℕ) : Type 0 where
   after : List ℕ
   is : ys ≡ before ++ x ∷ after
 
-split_at : (x : ℕ) (ys : List ℕ) → 0 < times x ys → IsSplit x ys
+split_at : (x : ℕ) (ys : List ℕ) → 0 < occurrences x ys → IsSplit x ys
 split_at x [] h = absurd (omega arith)
 split_at x (y ∷ ys) h = dite (ℕ_discrete y x)
     (λ here. record { before = []; after = ys; is = ap (λ z. z ∷ ys) here })
@@ -36,7 +36,7 @@ split_at x (y ∷ ys) h = dite (ℕ_discrete y x)
     let rest = split_at x ys (omega arith) in
     record { before = y ∷ rest.before; after = rest.after; is = ap (λ zs. y ∷ zs) rest.is })
 
-pub same_counts : (xs ys : List ℕ) → ((b : ℕ) → times b xs ≡ times b ys) → IsPermutation xs ys
+pub same_counts : (xs ys : List ℕ) → ((b : ℕ) → occurrences b xs ≡ occurrences b ys) → IsPermutation xs ys
 same_counts [] [] h = IsPermutation-refl []
 same_counts [] (y ∷ ys) h = let one_here = bit_eq y y refl in let e = h y in absurd (omega arith)
 same_counts (x ∷ xs) ys h =
@@ -46,9 +46,9 @@ same_counts (x ∷ xs) ys h =
     let rest : IsPermutation xs (s.before ++ s.after) =
     same_counts xs (s.before ++ s.after)
     (λ b. let whole = h b in
-    let parts = ap (times b) s.is in
-    let left = times-append b s.before (x ∷ s.after) in
-    let right = times-append b s.before s.after in
+    let parts = ap (occurrences b) s.is in
+    let left = occurrences-append b s.before (x ∷ s.after) in
+    let right = occurrences-append b s.before s.after in
     omega arith) in
     subst (IsPermutation (x ∷ xs)) (sym s.is)
     (IsPermutation-trans _ _ _ (IsPermutation-cons x _ _ rest) (IsPermutation-sym _ _ (IsPermutation-middle s.before x s.after)))
@@ -61,19 +61,19 @@ up_to (suc n) = up_to n ++ n ∷ []
 is_number : ℕ → ℕ → ℕ
 is_number b y = bit (y == b)
 
-times_total : (b : ℕ) (xs : List ℕ) → times b xs ≡ total (is_number b) xs
+occurrences_total : (b : ℕ) (xs : List ℕ) → occurrences b xs ≡ total (is_number b) xs
 unfolding is_number
-times_total b [] = refl
-times_total b (x ∷ xs) = ap (λ n. bit (x == b) + n) (times_total b xs)
+occurrences_total b [] = refl
+occurrences_total b (x ∷ xs) = ap (λ n. bit (x == b) + n) (occurrences_total b xs)
 
-times_concat : (b : ℕ) (xss : List (List ℕ)) → times b (concat xss) ≡ total (total (is_number b)) xss
-times_concat b [] = refl
-times_concat b (xs ∷ xss) = times-append b xs (concat xss) ∙ ap₂ (λ m n. m + n) (times_total b xs) (times_concat b xss)
+occurrences_concat : (b : ℕ) (xss : List (List ℕ)) → occurrences b (concat xss) ≡ total (total (is_number b)) xss
+occurrences_concat b [] = refl
+occurrences_concat b (xs ∷ xss) = occurrences-append b xs (concat xss) ∙ ap₂ (λ m n. m + n) (occurrences_total b xs) (occurrences_concat b xss)
 
-times_up_to : (b n : ℕ) → times b (up_to n) ≡ sum_below n (is_number b)
+occurrences_up_to : (b n : ℕ) → occurrences b (up_to n) ≡ sum_below n (is_number b)
 unfolding up_to is_number
-times_up_to b zero = refl
-times_up_to b (suc n) = let more = times-append b (up_to n) (n ∷ []) in let before = times_up_to b n in omega arith
+occurrences_up_to b zero = refl
+occurrences_up_to b (suc n) = let more = occurrences-append b (up_to n) (n ∷ []) in let before = occurrences_up_to b n in omega arith
 
 -- legal claims have each block once
 claims_are_blocks : (blocks workers : ℕ) (owners : List ℕ) (taken : List (List ℕ))
@@ -81,7 +81,7 @@ claims_are_blocks : (blocks workers : ℕ) (owners : List ℕ) (taken : List (Li
     → IsPermutation (up_to blocks) (concat taken)
 claims_are_blocks blocks workers owners taken legal =
     same_counts (up_to blocks) (concat taken)
-    (λ b. times_up_to b blocks ∙ sym (sum_of_claims (plan blocks workers) owners taken (is_number b) legal) ∙ sym (times_concat b taken))
+    (λ b. occurrences_up_to b blocks ∙ sym (sum_of_claims (plan blocks workers) owners taken (is_number b) legal) ∙ sym (occurrences_concat b taken))
 
 -- ---- sums over blocks
 sum_of_concat : (job : JobView) (terms : List Term) (xss : List (List ℕ))

@@ -23,7 +23,7 @@ use Rattle.factor_table.specs.declared.table.FactorTable.{FactorTable}
 use Rattle.factor_table.specs.declared.table.FactorSeat.{FactorSeat}
 use Rattle.table_sum.specs.Words.{IsLater}
 use Rattle.table_sum.specs.Trees.{KnowsEdges, edge_keys}
-use Rattle.table_sum.specs.Sums.{AreBelow, GrowBy, KnowsTree, KnowsTrees}
+use Rattle.table_sum.specs.Sums.{AreSumsBelow, GrowBy, KnowsTree, KnowsTrees}
 use Rattle.table_sum.proofs.EdgeLists.{all_later}
 
 -- ---- one sum
@@ -51,7 +51,7 @@ adds_both m f g old mid new above p q = record {
 }
 
 -- ---- the sums of a problem
-pub no_trees : (p : Problem) (first : ℕ) (sums : List ℕ) → AreBelow p sums
+pub no_trees : (p : Problem) (first : ℕ) (sums : List ℕ) → AreSumsBelow p sums
     → GrowBy p (partial_sum p.setup p.shape first first) sums sums
 no_trees p first sums below place within =
     subst (λ f. AddsResidue (modulus_at p.moduli place) f (slice_index sums place) (slice_index sums place))
@@ -71,9 +71,9 @@ one_tree_more p first k g old mid new from e before more place within =
     (adds_both m sum (contribution p.setup terms g) (slice_index old place) (slice_index mid place) (slice_index new place) (modulus_above p place) (before place within) (more place within))
 
 -- sums below their moduli stay so, if those before an index grew and the others did not change
-pub still_below : (p : Problem) (fraction_of : List Term → Fraction) (end : ℕ) (old new : List ℕ) → AreBelow p old
+pub still_below : (p : Problem) (fraction_of : List Term → Fraction) (end : ℕ) (old new : List ℕ) → AreSumsBelow p old
     → ((q : ℕ) → q < end → AddsResidue (modulus_at p.moduli q) (fraction_of (integral_at p.moduli p.integrals q)) (slice_index old q) (slice_index new q))
-    → ((q : ℕ) → end ≤ q → slice_index new q ≡ slice_index old q) → AreBelow p new
+    → ((q : ℕ) → end ≤ q → slice_index new q ≡ slice_index old q) → AreSumsBelow p new
 still_below p fraction_of end old new below added rest place within =
     ⊎_elim
     (λ earlier. let a = added place earlier in let above = modulus_above p place in

@@ -23,8 +23,8 @@ abbrev pub table_of : TableSum → FactorTable
 table_of s = s.table.now
 
 -- each sum is a residue modulo its modulus
-abbrev pub AreBelow : Problem → List ℕ → Type 0
-AreBelow p sums = (place : ℕ) → place < places_of (view p) → slice_index sums place < modulus_at p.moduli place
+abbrev pub AreSumsBelow : Problem → List ℕ → Type 0
+AreSumsBelow p sums = (place : ℕ) → place < places_of (view p) → slice_index sums place < modulus_at p.moduli place
 
 -- each sum grew by the residue of the fraction of its integral modulo its modulus
 abbrev pub GrowBy : Problem → (List Term → Fraction) → List ℕ → List ℕ → Type 0

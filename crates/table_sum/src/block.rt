@@ -17,7 +17,7 @@ impl TableSum<'_> {
     ghost use Rattle.problem.specs.Sums.{count_of, places_of, is_bad_of};
     ghost use Rattle.factor_table.specs.Seats.{IsSeatOf};
     ghost use Rattle.table_sum.specs.Words.{IsLater, LacksSomeUnit};
-    ghost use Rattle.table_sum.specs.Sums.{problem_of, table_of, AreBelow, GrowBy, KnowsTree, KnowsTrees};
+    ghost use Rattle.table_sum.specs.Sums.{problem_of, table_of, AreSumsBelow, GrowBy, KnowsTree, KnowsTrees};
 
     /// Adds the contributions of the trees of the numbers from `first` to `stop - 1` to the sums, which are integral by
     /// integral and within one integral modulus by modulus. No tree costs a division, and no memory is taken.
@@ -37,7 +37,7 @@ impl TableSum<'_> {
         requires seat { IsSeatOf seat.old (table_of self.now) }
         requires order { first < stop }
         requires within { stop ≤ count_of (problem_view (problem_of self.now)) }
-        requires below { AreBelow (problem_of self.now) sums.old }
+        requires below { AreSumsBelow (problem_of self.now) sums.old }
         ensures added { OnOk result (GrowBy (problem_of self.now)
             (partial_sum (problem_of self.now).setup (problem_of self.now).shape first stop) sums.old sums.new) }
         ensures none { OnOk result (NoneBad (is_bad_of (problem_view (problem_of self.now))) first stop) }
@@ -66,7 +66,7 @@ impl TableSum<'_> {
         requires seat { IsSeatOf seat.old (table_of self.now) }
         requires order { first < stop }
         requires within { stop ≤ count_of (problem_view (problem_of self.now)) }
-        requires below { AreBelow (problem_of self.now) sums.old }
+        requires below { AreSumsBelow (problem_of self.now) sums.old }
         ensures added { OnOk result (GrowBy (problem_of self.now)
             (partial_sum (problem_of self.now).setup (problem_of self.now).shape first stop) sums.old sums.new) }
         ensures rest { (place : ℕ) → places_of (problem_view (problem_of self.now)) ≤ place
@@ -97,8 +97,8 @@ impl TableSum<'_> {
     ) -> Result<(), NoUnit>
         requires seat { IsSeatOf seat.old (table_of self.now) }
         requires tree { IsTrue (is_tree_of (problem_of self.now).shape tree.now) }
-        requires below { AreBelow (problem_of self.now) sums.old }
-        ensures below { AreBelow (problem_of self.now) sums.new }
+        requires below { AreSumsBelow (problem_of self.now) sums.old }
+        ensures below { AreSumsBelow (problem_of self.now) sums.new }
         ensures added { OnOk result (GrowBy (problem_of self.now)
             (λ terms. contribution (problem_of self.now).setup terms (tree_view tree.now)) sums.old sums.new) }
         ensures rest { (place : ℕ) → places_of (problem_view (problem_of self.now)) ≤ place

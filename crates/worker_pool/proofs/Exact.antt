@@ -8,32 +8,32 @@ use Rattle.std.proofs.lemmas.Bool.Decides.{nat_tests}
 use mathlib.Core.Logic.{dite}
 use native.Mathlib.Decide.{dec_lt, dec_le, ℕ_discrete}
 use Rattle.claim_table.specs.declared.claimer.Record.{Record}
-use Rattle.claim_table.specs.Counts.{bit, times, least_of, nothing_bad}
+use Rattle.claim_table.specs.Counts.{bit, occurrences, least_of, nothing_bad}
 use Rattle.claim_table.specs.Claims.{all_reported, IsShareOf}
-use Rattle.claim_table.proofs.Lists.{times-append, bit_eq, bit_ne, each_of_all}
+use Rattle.claim_table.proofs.Lists.{occurrences-append, bit_eq, bit_ne, each_of_all}
 use Rattle.worker_pool.specs.Rounds.{at_most, answers, blocks_of, seens_of, IsLeastOfRound}
 
 -- n is at most each number that stands in the list
 abbrev AtMostEach : ℕ → List ℕ → Type 0
-AtMostEach n xs = (x : ℕ) → 0 < times x xs → n ≤ x
+AtMostEach n xs = (x : ℕ) → 0 < occurrences x xs → n ≤ x
 
 passes : (number seen : ℕ) (o : Option ℕ) → o ≡ Some number → number ≤ seen → at_most seen o ≡ Some number
 passes number seen o e le = ap (at_most seen) e ∙ (let t : leb number seen ≡ true = le-leb number seen le in rw t refl)
 
-self_once : (x : ℕ) (xs : List ℕ) → 0 < times x (x ∷ xs)
+self_once : (x : ℕ) (xs : List ℕ) → 0 < occurrences x (x ∷ xs)
 self_once x xs = omega (arith, bit_eq x x refl)
 
-in_rest : (x : ℕ) (o : Option ℕ) (xs : List ℕ) → 0 < times x xs → 0 < times x (cons_option o xs)
+in_rest : (x : ℕ) (o : Option ℕ) (xs : List ℕ) → 0 < occurrences x xs → 0 < occurrences x (cons_option o xs)
 in_rest x None xs h = h
 in_rest x (Some y) xs h = omega arith
 
 -- a number at most all answers and all that was seen is at most the least bad number of each block that was worked
 at_most_worked : (g : ℕ → Option ℕ) (n b number : ℕ) (ps : List (ℕ × ℕ)) → AtMostEach n (answers g ps)
-    → AtMostEach n (seens_of ps) → 0 < times b (blocks_of ps) → g b ≡ Some number → n ≤ number
+    → AtMostEach n (seens_of ps) → 0 < occurrences b (blocks_of ps) → g b ≡ Some number → n ≤ number
 at_most_worked g n b number [] a s there e = absurd (omega arith)
 at_most_worked g n b number (p ∷ ps) a s there e = dite (ℕ_discrete p.0 b)
     (λ is. dite (dec_le number p.1)
-    (λ le. a number (subst (λ o. 0 < times number (cons_option o (answers g ps)))
+    (λ le. a number (subst (λ o. 0 < occurrences number (cons_option o (answers g ps)))
     (sym (passes number p.1 (g p.0) (ap g is ∙ e) le)) (self_once number (answers g ps))))
     (λ more. omega (arith, s p.1 (self_once p.1 (seens_of ps)))))
     (λ isnt. let z = bit_ne p.0 b isnt in
@@ -42,26 +42,26 @@ at_most_worked g n b number (p ∷ ps) a s there e = dite (ℕ_discrete p.0 b)
 
 -- an answer is the least bad number of a block that was worked
 abbrev IsOfBlock : (ℕ → Option ℕ) → ℕ → List (ℕ × ℕ) → Type 0
-IsOfBlock g x ps = (b : ℕ) × (0 < times b (blocks_of ps)) × (g b ≡ Some x)
+IsOfBlock g x ps = (b : ℕ) × (0 < occurrences b (blocks_of ps)) × (g b ≡ Some x)
 
 later : (g : ℕ → Option ℕ) (x : ℕ) (p : ℕ × ℕ) (ps : List (ℕ × ℕ)) → IsOfBlock g x ps → IsOfBlock g x (p ∷ ps)
 later g x p ps r = (r.0, (omega (arith, r.1)), r.2)
 
 first_or_later : (g : ℕ → Option ℕ) (x : ℕ) (p : ℕ × ℕ) (ps : List (ℕ × ℕ)) (t : Bool) (number : ℕ)
-    → g p.0 ≡ Some number → 0 < times x (cons_option (cond t (Some number) None) (answers g ps))
-    → (0 < times x (answers g ps) → IsOfBlock g x ps) → IsOfBlock g x (p ∷ ps)
+    → g p.0 ≡ Some number → 0 < occurrences x (cons_option (cond t (Some number) None) (answers g ps))
+    → (0 < occurrences x (answers g ps) → IsOfBlock g x ps) → IsOfBlock g x (p ∷ ps)
 first_or_later g x p ps false number e h rest = later g x p ps (rest h)
 first_or_later g x p ps true number e h rest = dite (ℕ_discrete number x)
     (λ is. (p.0, self_once p.0 (blocks_of ps), e ∙ ap (λ n. Some n) is))
     (λ isnt. let z = bit_ne number x isnt in later g x p ps (rest (omega arith)))
 
 answer_by : (g : ℕ → Option ℕ) (x : ℕ) (p : ℕ × ℕ) (ps : List (ℕ × ℕ)) (o : Option ℕ) → g p.0 ≡ o
-    → 0 < times x (cons_option (at_most p.1 o) (answers g ps)) → (0 < times x (answers g ps) → IsOfBlock g x ps)
+    → 0 < occurrences x (cons_option (at_most p.1 o) (answers g ps)) → (0 < occurrences x (answers g ps) → IsOfBlock g x ps)
     → IsOfBlock g x (p ∷ ps)
 answer_by g x p ps None e h rest = later g x p ps (rest h)
 answer_by g x p ps (Some number) e h rest = first_or_later g x p ps (leb number p.1) number e h rest
 
-answer_is : (g : ℕ → Option ℕ) (x : ℕ) (ps : List (ℕ × ℕ)) → 0 < times x (answers g ps) → IsOfBlock g x ps
+answer_is : (g : ℕ → Option ℕ) (x : ℕ) (ps : List (ℕ × ℕ)) → 0 < occurrences x (answers g ps) → IsOfBlock g x ps
 answer_is g x [] h = absurd (omega arith)
 answer_is g x (p ∷ ps) h = answer_by g x p ps (g p.0) refl h (λ r. answer_is g x ps r)
 
@@ -70,26 +70,26 @@ least_at_most n [] e x h = absurd (omega arith)
 least_at_most n (y ∷ ys) e x h = dite (ℕ_discrete y x) (λ is. omega arith) (λ isnt. let z = bit_ne y x isnt in
     omega (arith, least_at_most (least_of ys) ys refl x (omega arith)))
 
-least_stands : (xs : List ℕ) → (least_of xs ≡ nothing_bad) ⊎ (0 < times (least_of xs) xs)
+least_stands : (xs : List ℕ) → (least_of xs ≡ nothing_bad) ⊎ (0 < occurrences (least_of xs) xs)
 least_stands [] = inl refl
 least_stands (y ∷ ys) = dite (dec_le y (least_of ys)) (λ le. let e : min y (least_of ys) ≡ y = omega arith in
-    inr (subst (λ n. 0 < times n (y ∷ ys)) (sym e) (self_once y ys)))
+    inr (subst (λ n. 0 < occurrences n (y ∷ ys)) (sym e) (self_once y ys)))
     (λ more. let e : min y (least_of ys) ≡ least_of ys = omega arith in
-    ⊎_elim (λ z. inl (e ∙ z)) (λ h. inr (subst (λ n. 0 < times n (y ∷ ys)) (sym e) (omega arith)))
+    ⊎_elim (λ z. inl (e ∙ z)) (λ h. inr (subst (λ n. 0 < occurrences n (y ∷ ys)) (sym e) (omega arith)))
     (least_stands ys))
 
 reports_at : (rs : List Record) (k : ℕ) (d : Record) (x : ℕ) → k < length rs
-    → 0 < times x (get_or rs k d).reported → 0 < times x (all_reported rs)
+    → 0 < occurrences x (get_or rs k d).reported → 0 < occurrences x (all_reported rs)
 reports_at [] k d x lt h = absurd (omega arith)
-reports_at (r ∷ rs) zero d x lt h = omega (arith, times-append x r.reported (all_reported rs))
-reports_at (r ∷ rs) (suc k) d x lt h = let a = times-append x r.reported (all_reported rs) in
+reports_at (r ∷ rs) zero d x lt h = omega (arith, occurrences-append x r.reported (all_reported rs))
+reports_at (r ∷ rs) (suc k) d x lt h = let a = occurrences-append x r.reported (all_reported rs) in
     omega (arith, reports_at rs k d x (omega arith) h)
 
-reported_by : (rs : List Record) (x : ℕ) → 0 < times x (all_reported rs) → (k : ℕ) × (k < length rs)
-    × ((d : Record) → 0 < times x (get_or rs k d).reported)
+reported_by : (rs : List Record) (x : ℕ) → 0 < occurrences x (all_reported rs) → (k : ℕ) × (k < length rs)
+    × ((d : Record) → 0 < occurrences x (get_or rs k d).reported)
 reported_by [] x h = absurd (omega arith)
-reported_by (r ∷ rs) x h = let a = times-append x r.reported (all_reported rs) in
-    dite (dec_lt 0 (times x r.reported)) (λ here. (0, omega arith, λ d. here))
+reported_by (r ∷ rs) x h = let a = occurrences-append x r.reported (all_reported rs) in
+    dite (dec_lt 0 (occurrences x r.reported)) (λ here. (0, omega arith, λ d. here))
     (λ later. let q = reported_by rs x (omega arith) in (suc q.0, (omega (arith, q.1)), λ d. q.2 d))
 
 owner_self : (b n w : ℕ) → b < n → bit (ltb b n && eqb w w) ≡ 1
@@ -122,7 +122,7 @@ module _ (g : ℕ → Option ℕ) (rs : List Record) (owners : List ℕ) (least 
       (λ there. let by = reported_by rs (least_of (all_reported rs)) there in
       let w = did by.0 d by.1 in
       let b = answer_is g (least_of (all_reported rs)) w.0 (subst
-      (λ l. 0 < times (least_of (all_reported rs)) l) w.1 (by.2 d)) in
+      (λ l. 0 < occurrences (least_of (all_reported rs)) l) w.1 (by.2 d)) in
       let o = w.2 b.0 in
       let q = b.1 in
       (b.0, owned_below b.0 (length owners) (get_or owners b.0 0) by.0 (omega arith), b.2 ∙ ap (λ n. Some n) (sym is)))

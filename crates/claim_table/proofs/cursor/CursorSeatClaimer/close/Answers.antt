@@ -4,7 +4,7 @@ use Rattle.std.proofs.Common.{◌≡◌, [], ◌∷◌, ◌++◌, length, map, g
 use Rattle.std.specs.Vec.Iter.{into_iter_items}
 use Rattle.claim_table.specs.declared.claimer.Plan.{Plan}
 use Rattle.claim_table.specs.declared.cursor.CursorSeat.{CursorSeat}
-use Rattle.claim_table.specs.Counts.{times}
+use Rattle.claim_table.specs.Counts.{occurrences}
 use Rattle.claim_table.specs.Claims.{fresh, given, IsLegal}
 use Rattle.claim_table.specs.Views.{IsLeastReported}
 use Rattle.claim_table.specs.Seats.{seat_record}
@@ -57,9 +57,9 @@ loop-seat-preserved c =
           let o = get_or c.args.board.owners b 0 in
           let was = get_or c.loop-seat.owners b 0 in
           c.give.ensures.owners b (omega arith)
-          ∙ ap (λ l. given (times b l) seat.number was) (c.deref.ensures.value ∙ sym seat.takes)
-          ∙ ap (λ n. given (times b done.taken) n was) (sym seat.numbered)
-          ∙ ap (λ n. given (times b done.taken) done.worker n) (inv.owners b lt)
+          ∙ ap (λ l. given (occurrences b l) seat.number was) (c.deref.ensures.value ∙ sym seat.takes)
+          ∙ ap (λ n. given (occurrences b done.taken) n was) (sym seat.numbered)
+          ∙ ap (λ n. given (occurrences b done.taken) done.worker n) (inv.owners b lt)
           ∙ sym (owner_after-one b o (map seat_record c.loop-seat.yielded) done)
           ∙ ap (λ l. owner_after b l o) (sym (map-one seat_record c.loop-seat.yielded seat));
     }

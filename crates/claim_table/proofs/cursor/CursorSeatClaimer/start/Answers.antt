@@ -5,7 +5,7 @@ use Rattle.atomic_table.specs.Table.{Me}
 use Rattle.claim_table.specs.declared.claimer.Record.{Record}
 use Rattle.claim_table.specs.declared.cursor.CursorSeat.{CursorSeat}
 use Rattle.claim_table.specs.declared.view.View.{View}
-use Rattle.claim_table.specs.Counts.{times}
+use Rattle.claim_table.specs.Counts.{occurrences}
 use Rattle.claim_table.specs.Claims.{fresh}
 use Rattle.claim_table.specs.Views.{view}
 use Rattle.claim_table.specs.Cursor.{only}
@@ -35,7 +35,7 @@ invariant_of-push_reserved c =
       dries = ap (λ (m : Me (Unit {0}) (View Record)). (only m.0).dry) is;
       takes = ap (λ (m : Me (Unit {0}) (View Record)). (only m.0).taken) is ∙ sym empty;
       few = omega (arith, ap length empty);
-      below = λ b some_there. absurd (omega (arith, ap (times b) empty));
+      below = λ b some_there. absurd (omega (arith, ap (occurrences b) empty));
       room = omega (arith, c.in_ok-taken.ensures.capacity);
     }
 

@@ -1,5 +1,5 @@
 use Rattle.std.proofs.Common.{rules, arith, ap, ◌∙◌}
-use Rattle.claim_table.specs.Counts.{times}
+use Rattle.claim_table.specs.Counts.{occurrences}
 use Rattle.claim_table.proofs.Moves.{takes}
 use Rattle.claim_table.proofs.Lists.{below_one}
 use Rattle.claim_table.proofs.cursor.CursorSeatClaimer.take.Goals as goal
@@ -12,7 +12,7 @@ fetch_add-found-requires c = (
 )
 
 pub invariant_of-self-2-clause-below : goal.invariant_of-self-2-clause-below
-invariant_of-self-2-clause-below c = λ b some_there. let e = ap (times b) c.push_reserved.ensures.items in
+invariant_of-self-2-clause-below c = λ b some_there. let e = ap (occurrences b) c.push_reserved.ensures.items in
     let k = ap (λ m. m.0.blocks) c.fetch_add-found.ensures.2.0 in
     omega (
       arith,

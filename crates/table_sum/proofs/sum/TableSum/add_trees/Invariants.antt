@@ -6,7 +6,7 @@ use Rattle.localisation.specs.Contribution.{partial_sum}
 use Rattle.problem.specs.Problems.{view}
 use Rattle.problem.specs.Sums.{places_of}
 use Rattle.table_sum.specs.Words.{IsLater, LacksSomeUnit}
-use Rattle.table_sum.specs.Sums.{AreBelow, GrowBy, KnowsTrees}
+use Rattle.table_sum.specs.Sums.{AreSumsBelow, GrowBy, KnowsTrees}
 use Rattle.table_sum.proofs.sum.TableSum.add_trees.Given as goal
 
 abbrev pub invariant-loop-k : goal.invariant-loop-k
@@ -16,7 +16,7 @@ invariant-loop-k l = record {
   decorated : IsTrue (is_decorated l.self.problem.now.shape (tree_view l.tree));
   marks : l.tree.m ≡ l.self.problem.now.shape.marks;
   padded : IsTrue (is_padded l.tree);
-  below : AreBelow l.self.problem.now l.sums;
+  below : AreSumsBelow l.self.problem.now l.sums;
   added : l.every ≡ true
       → (GrowBy l.self.problem.now (partial_sum l.self.problem.now.setup l.self.problem.now.shape l.first l.k) l.fn.sums l.sums);
   cause : l.every ≡ false → LacksSomeUnit l.self.table.now;
