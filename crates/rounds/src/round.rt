@@ -29,8 +29,8 @@ pub(crate) struct BadTree {
 }
 
 /// Sums the numbers from `first` to `end - 1` on as many workers as there are parts, and adds the sums to the residues;
-/// or returns the least bad tree, and the residues stay. What the parts held before does not matter, but for their
-/// seats, which are of the table and stay so.
+/// or returns the least bad tree, and then the residues are of no use. What the parts held before does not matter, but
+/// for their seats, which are of the table and stay so.
 ///
 /// # Errors
 /// `NoMemory` if there is no memory for the claims of the round. It comes before the first tree is summed.
