@@ -1,0 +1,216 @@
+"""Classes on the space of stable maps: what is integrated.
+
+The six kinds of class of `locus` are made by `hypersurface`, `incidence`, `mark`, `r1`, `contact` and `psi`. They are
+added, subtracted, multiplied, raised to powers and multiplied by numbers, and are kept as a sum of products:
+
+    >>> incidence(2) * (2 * mark(1) - 3)
+    -3*incidence(2) + 2*incidence(2)*mark(1)
+    >>> jet(mark=1, b=3, order=2)
+    3*mark(1)*psi(1) + 9*mark(1)^2
+"""
+
+from __future__ import annotations
+
+from fractions import Fraction
+from typing import Dict, Iterator, Mapping, NamedTuple, Tuple, Union
+
+Number = Union[int, Fraction]
+
+
+class Atom(NamedTuple):
+    """One class: its kind, and its parameter (b, q, k or the mark); `contact` has the parameter 0, which is not used."""
+
+    kind: str
+    parameter: int
+
+    def degree(self, curve_degree: int) -> int:
+        """The degree of the class on the space of maps of this degree."""
+        return {
+            "hypersurface": self.parameter * curve_degree + 1,
+            "incidence": self.parameter - 1,
+            "mark": 1,
+            "r1": self.parameter * curve_degree - 1,
+            "contact": 2 * curve_degree - 1,
+            "psi": 1,
+        }[self.kind]
+
+    def __str__(self) -> str:
+        return "contact()" if self.kind == "contact" else f"{self.kind}({self.parameter})"
+
+
+Monomial = Tuple[Tuple[Atom, int], ...]
+"""A product of classes, each with its power, in the order of `Atom`, none of them twice."""
+
+
+class Classes:
+    """A sum of products of classes with rational coefficients. It is not changed once it is made."""
+
+    __slots__ = ("_terms",)
+
+    def __init__(self, terms: Mapping[Monomial, Number]) -> None:
+        self._terms: Dict[Monomial, Fraction] = {
+            monomial: Fraction(terms[monomial]) for monomial in sorted(terms) if terms[monomial] != 0
+        }
+
+    @classmethod
+    def of(cls, value: Union["Classes", Number, str]) -> "Classes":
+        """A number, a text such as `incidence(2)^5` or `2*mark(1) - psi(1)`, or classes, as classes."""
+        if isinstance(value, Classes):
+            return value
+        if isinstance(value, str):
+            from .expression import parse
+
+            return parse(value)
+        if isinstance(value, (int, Fraction)) and not isinstance(value, bool):
+            return cls({(): value})
+        raise TypeError(f"neither classes nor a number nor a text: {value!r}")
+
+    def __iter__(self) -> Iterator[Tuple[Fraction, Monomial]]:
+        """The terms: each coefficient with its product of classes."""
+        return iter([(coefficient, monomial) for monomial, coefficient in self._terms.items()])
+
+    def __len__(self) -> int:
+        return len(self._terms)
+
+    def degrees(self, curve_degree: int) -> Tuple[int, ...]:
+        """The degrees of the terms, in order and each once, on the space of maps of this degree."""
+        return tuple(sorted({degree_of(monomial, curve_degree) for monomial in self._terms}))
+
+    def highest_mark(self) -> int:
+        """The greatest mark that some term names, and 0 if there is none."""
+        atoms = [atom for monomial in self._terms for atom, _ in monomial]
+        return max((atom.parameter for atom in atoms if atom.kind in ("mark", "psi")), default=0)
+
+    def __add__(self, other: Union["Classes", Number]) -> "Classes":
+        if not isinstance(other, (Classes, int, Fraction)):
+            return NotImplemented
+        total = dict(self._terms)
+        for coefficient, monomial in Classes.of(other):
+            total[monomial] = total.get(monomial, Fraction(0)) + coefficient
+        return Classes(total)
+
+    def __mul__(self, other: Union["Classes", Number]) -> "Classes":
+        if not isinstance(other, (Classes, int, Fraction)):
+            return NotImplemented
+        total: Dict[Monomial, Fraction] = {}
+        for left, some in self:
+            for right, others in Classes.of(other):
+                product = _product(some, others)
+                total[product] = total.get(product, Fraction(0)) + left * right
+        return Classes(total)
+
+    def __pow__(self, exponent: int) -> "Classes":
+        if not isinstance(exponent, int) or exponent < 0:
+            raise ValueError(f"a power of classes is a whole number from 0 on, and not {exponent!r}")
+        result = Classes({(): 1})
+        for _ in range(exponent):
+            result = result * self
+        return result
+
+    def __neg__(self) -> "Classes":
+        return self * -1
+
+    def __sub__(self, other: Union["Classes", Number]) -> "Classes":
+        return self + -other
+
+    def __rsub__(self, other: Number) -> "Classes":
+        return -self + other
+
+    def __truediv__(self, number: Number) -> "Classes":
+        return self * (Fraction(1) / number)
+
+    __radd__ = __add__
+    __rmul__ = __mul__
+
+    def __eq__(self, other: object) -> bool:
+        if not isinstance(other, (Classes, int, Fraction)):
+            return NotImplemented
+        return self._terms == Classes.of(other)._terms
+
+    def __hash__(self) -> int:
+        return hash(tuple(self._terms.items()))
+
+    def __repr__(self) -> str:
+        return str(self)
+
+    def __str__(self) -> str:
+        text = " + ".join(_term_text(coefficient, monomial) for coefficient, monomial in self)
+        return text.replace("+ -", "- ") or "0"
+
+
+def degree_of(monomial: Monomial, curve_degree: int) -> int:
+    """The degree of a product of classes on the space of maps of this degree."""
+    return sum(atom.degree(curve_degree) * power for atom, power in monomial)
+
+
+def monomial_text(monomial: Monomial) -> str:
+    """A product of classes, as `incidence(2)^5*mark(1)`."""
+    return "*".join(f"{atom}^{power}" if power > 1 else str(atom) for atom, power in monomial) or "1"
+
+
+def _term_text(coefficient: Fraction, monomial: Monomial) -> str:
+    if not monomial:
+        return str(coefficient)
+    if abs(coefficient) == 1:
+        return ("-" if coefficient < 0 else "") + monomial_text(monomial)
+    return f"{coefficient}*{monomial_text(monomial)}"
+
+
+def _product(some: Monomial, others: Monomial) -> Monomial:
+    powers = dict(some)
+    for atom, power in others:
+        powers[atom] = powers.get(atom, 0) + power
+    return tuple(sorted(powers.items()))
+
+
+def _single(kind: str, name: str, value: int, least: int, most: int) -> Classes:
+    if isinstance(value, bool) or not isinstance(value, int):
+        raise TypeError(f"{kind}: {name} is a whole number, and not {value!r}")
+    if not least <= value <= most:
+        raise ValueError(f"{kind}: {name} is from {least} to {most}, and not {value}")
+    return Classes({((Atom(kind, value), 1),): 1})
+
+
+def hypersurface(b: int) -> Classes:
+    """The curve lies on a hypersurface of degree `b` (1 to 64): degree `b d + 1`."""
+    return _single("hypersurface", "b", b, 1, 64)
+
+
+def incidence(q: int) -> Classes:
+    """The curve meets a linear space of codimension `q` (2 to 12) in the ambient projective space: degree `q - 1`."""
+    return _single("incidence", "q", q, 2, 12)
+
+
+def mark(j: int) -> Classes:
+    """Mark `j` (1 to 12) lies on a hyperplane; the power `r` puts it at a point: degree 1."""
+    return _single("mark", "mark", j, 1, 12)
+
+
+def r1(k: int) -> Classes:
+    """The top Chern class of the first direct image of O(-k), for `k` from 1 to 64: degree `k d - 1`."""
+    return _single("r1", "k", k, 1, 64)
+
+
+def contact() -> Classes:
+    """The curve is tangent to a contact distribution (in odd rank): degree `2 d - 1`."""
+    return Classes({((Atom("contact", 0), 1),): 1})
+
+
+def psi(j: int) -> Classes:
+    """The psi class at mark `j` (1 to 12), of the space of maps with the marks of the problem alone: degree 1."""
+    return _single("psi", "mark", j, 1, 12)
+
+
+def jet(mark: int, b: int, order: int) -> Classes:
+    """The curve has contact of order at least `order` with a hypersurface of degree `b` at mark `mark`.
+
+    It is the product of `b H + i psi` for `i` from 0 to `order - 1`, where `H` is `mark(mark)`: order 1 says that the
+    mark lies on the hypersurface, order 2 that the curve touches it there. Its degree is `order`.
+    """
+    if order < 1:
+        raise ValueError(f"jet: the order of contact is at least 1, and not {order}")
+    at_mark, cotangent = _single("mark", "mark", mark, 1, 12), psi(mark)
+    result = Classes({(): 1})
+    for step in range(order):
+        result = result * (b * at_mark + step * cotangent)
+    return result

@@ -1,0 +1,97 @@
+"""Progress bars: by tqdm if it is installed, by a plain line on standard error otherwise, or by a call of one's own."""
+
+from __future__ import annotations
+
+import sys
+import time
+from typing import Any, Callable, Optional, TextIO, Union
+
+Progress = Union[bool, Callable[[int, Optional[int]], None]]
+"""True for a bar, False for none, or a call that is told how many trees are summed, and how many there are (None if
+that is not known)."""
+
+
+class Silent:
+    """No bar."""
+
+    def to(self, done: int) -> None:
+        """So many trees are summed."""
+
+    def close(self) -> None:
+        """The sum has ended."""
+
+
+class _Told(Silent):
+    def __init__(self, total: Optional[int], told: Callable[[int, Optional[int]], None]) -> None:
+        self._total = total
+        self._told = told
+
+    def to(self, done: int) -> None:
+        self._told(done, self._total)
+
+
+class _Tqdm(Silent):
+    def __init__(self, total: Optional[int], make: Any) -> None:
+        self._bar = make(total=total, unit=" trees", unit_scale=True)
+
+    def to(self, done: int) -> None:
+        self._bar.update(done - self._bar.n)
+
+    def close(self) -> None:
+        self._bar.close()
+
+
+class Plain(Silent):
+    """A line on standard error that is written over: how many trees are summed, and how long the rest will take if it
+    goes on at the same pace."""
+
+    WIDTH = 30
+
+    def __init__(self, total: Optional[int], out: Optional[TextIO] = None) -> None:
+        self._total = total
+        self._out = out or sys.stderr
+        self._begun: Optional[float] = None
+        self._first = 0
+        self._length = 0
+
+    def to(self, done: int) -> None:
+        now = time.monotonic()
+        if self._begun is None:
+            self._begun, self._first = now, done
+        line = self._line(done, now - self._begun)
+        self._out.write("\r" + line.ljust(self._length))
+        self._out.flush()
+        self._length = len(line)
+
+    def _line(self, done: int, seconds: float) -> str:
+        if not self._total:
+            return f"{done:,} trees"
+        filled = self.WIDTH * done // self._total
+        line = f"[{'#' * filled}{'.' * (self.WIDTH - filled)}] {done:,} of {self._total:,} trees"
+        if self._first < done < self._total:
+            line += f", {_duration(seconds * (self._total - done) / (done - self._first))} left"
+        return line
+
+    def close(self) -> None:
+        if self._length:
+            self._out.write("\n")
+            self._out.flush()
+
+
+def bar(progress: Progress, total: Optional[int]) -> Silent:
+    """The bar that is asked for, of a sum of so many trees."""
+    if progress is False:
+        return Silent()
+    if callable(progress):
+        return _Told(total, progress)
+    try:
+        from tqdm.auto import tqdm
+    except ImportError:
+        return Plain(total)
+    return _Tqdm(total, tqdm)
+
+
+def _duration(seconds: float) -> str:
+    minutes, rest = divmod(int(seconds), 60)
+    hours, minutes = divmod(minutes, 60)
+    return f"{hours}:{minutes:02}:{rest:02}" if hours else f"{minutes}:{rest:02}"
