@@ -30,6 +30,7 @@ from .expression import parse
 from .program import Integral, Sum, find
 from .runs import Runner
 from .tables import Table, table, without_covers
+from .tangency import tangent
 
 __all__ = [
     "CheckpointMismatch",
@@ -61,6 +62,7 @@ __all__ = [
     "psi",
     "r1",
     "table",
+    "tangent",
     "tree_count",
     "without_covers",
 ]

@@ -5,7 +5,7 @@ from fractions import Fraction
 from unittest import mock
 
 import locus
-from locus import compute, gw, hypersurface, incidence, jet, mark, psi, r1
+from locus import compute, gw, hypersurface, incidence, jet, mark, psi, r1, tangent
 from locus import choices
 
 
@@ -40,6 +40,28 @@ class Literature(unittest.TestCase):
 
     def test_descendants_of_a_point_on_the_line(self):
         self.assertEqual(gw(1, 2, mark(1) * psi(1) ** 2), Fraction(1, 4))
+
+
+class Tangency(unittest.TestCase):
+    def test_conics_tangent_to_lines(self):
+        numbers = [tangent(2, 2, [1] * lines, incidence(2) ** (5 - lines)) for lines in range(6)]
+        self.assertEqual(numbers, [1, 2, 4, 4, 2, 1])  # Chasles 1864
+
+    def test_conics_tangent_to_five_conics(self):
+        self.assertEqual(tangent(2, 2, [2] * 5), 3264)  # Chasles 1864
+
+    def test_rational_cubics_tangent_to_lines(self):
+        self.assertEqual([tangent(2, 3, [1] * lines, incidence(2) ** (8 - lines)) for lines in (1, 2)], [36, 100])
+
+    def test_lines_tangent_to_four_quadrics(self):
+        self.assertEqual(tangent(3, 1, [2, 2, 2, 2]), 32)
+
+    def test_lines_tangent_to_two_curves(self):
+        self.assertEqual(tangent(2, 1, [3, 4]), 3 * 2 * 4 * 3)  # where the dual curves meet
+
+    def test_marks_stand_beside_no_tangency(self):
+        with self.assertRaises(ValueError):
+            tangent(2, 2, [1], mark(1) * incidence(2) ** 3)
 
 
 class Large(unittest.TestCase):
