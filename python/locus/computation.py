@@ -167,9 +167,10 @@ def _joined(sums: _Sums, group: Sequence[Piece]) -> List[_Found]:
         answer = sums.run([group[index] for index in left], moduli, choices.bounds_for(moduli))
         for index, part in zip(left, answer.integrals):
             residues[index] += part.residues
-            value = part.fraction if number == 0 else small_fraction(residues[index], choices.CERTAINTY)
+            printed = part.fraction if number == 0 else None
+            value = printed if printed is not None else small_fraction(residues[index], choices.CERTAINTY)
             if value is not None:
-                found[index] = _Found(value, number == 0)
+                found[index] = _Found(value, printed is not None)
         if len(found) == len(group):
             return [found[index] for index in residues]
     raise NoFraction(f"no fraction was certain after {MOST_RUNS} runs of two moduli each")

@@ -72,11 +72,11 @@ class Large(unittest.TestCase):
             with self.subTest(rank=rank):
                 self.assertEqual(result.values, (lines_on_a_hypersurface(rank),))
                 self.assertEqual(result.printed, (rank == 9,))
-                self.assertEqual(len(result.runs), 1 if rank == 9 else 2)
+                self.assertEqual(len(result.runs), 2 if rank == 12 else 1)
 
     def test_one_large_number_among_small_ones_alone_is_run_again(self):
-        result = compute(10, 1, [hypersurface(17), incidence(10) ** 2])
-        self.assertEqual(result.values, (lines_on_a_hypersurface(10), 1))
+        result = compute(12, 1, [hypersurface(21), incidence(12) ** 2])
+        self.assertEqual(result.values, (lines_on_a_hypersurface(12), 1))
         self.assertEqual(result.printed, (False, True))
         self.assertEqual([len(run.answer.integrals) for run in result.runs], [2, 1])
 
