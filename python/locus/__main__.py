@@ -25,7 +25,7 @@ def main(words: Optional[List[str]] = None) -> int:
     runner = Runner(program=given.program, workers=given.workers, progress=not given.quiet)
     try:
         ended = runner.ended(source, trees_of_text(source), given.checkpoint)
-    except LocusError as error:
+    except (LocusError, OSError) as error:
         print(f"locus: {error}", file=sys.stderr)
         return 70
     except KeyboardInterrupt:

@@ -11,10 +11,13 @@ added, subtracted, multiplied, raised to powers and multiplied by numbers, and a
 
 from __future__ import annotations
 
+import numbers
+import operator
 from fractions import Fraction
-from typing import Dict, Iterator, Mapping, NamedTuple, Tuple, Union
+from typing import Any, Dict, Iterator, Mapping, NamedTuple, Optional, SupportsIndex, Tuple, Union
 
-Number = Union[int, Fraction]
+Number = Union[int, Fraction, SupportsIndex, numbers.Rational]
+"""A whole number or a fraction, also one of Sage or NumPy."""
 
 
 class Atom(NamedTuple):
@@ -47,9 +50,9 @@ class Classes:
 
     __slots__ = ("_terms",)
 
-    def __init__(self, terms: Mapping[Monomial, Number]) -> None:
+    def __init__(self, terms: Mapping[Monomial, Fraction]) -> None:
         self._terms: Dict[Monomial, Fraction] = {
-            monomial: Fraction(terms[monomial]) for monomial in sorted(terms) if terms[monomial] != 0
+            monomial: terms[monomial] for monomial in sorted(terms) if terms[monomial] != 0
         }
 
     @classmethod
@@ -61,9 +64,10 @@ class Classes:
             from .expression import parse
 
             return parse(value)
-        if isinstance(value, (int, Fraction)) and not isinstance(value, bool):
-            return cls({(): value})
-        raise TypeError(f"neither classes nor a number nor a text: {value!r}")
+        number = as_fraction(value)
+        if number is None:
+            raise TypeError(f"neither classes nor a number nor a text: {value!r}")
+        return cls({(): number})
 
     def __iter__(self) -> Iterator[Tuple[Fraction, Monomial]]:
         """The terms: each coefficient with its product of classes."""
@@ -82,7 +86,7 @@ class Classes:
         return max((atom.parameter for atom in atoms if atom.kind in ("mark", "psi")), default=0)
 
     def __add__(self, other: Union["Classes", Number]) -> "Classes":
-        if not isinstance(other, (Classes, int, Fraction)):
+        if not _is_term(other):
             return NotImplemented
         total = dict(self._terms)
         for coefficient, monomial in Classes.of(other):
@@ -90,7 +94,7 @@ class Classes:
         return Classes(total)
 
     def __mul__(self, other: Union["Classes", Number]) -> "Classes":
-        if not isinstance(other, (Classes, int, Fraction)):
+        if not _is_term(other):
             return NotImplemented
         total: Dict[Monomial, Fraction] = {}
         for left, some in self:
@@ -99,11 +103,12 @@ class Classes:
                 total[product] = total.get(product, Fraction(0)) + left * right
         return Classes(total)
 
-    def __pow__(self, exponent: int) -> "Classes":
-        if not isinstance(exponent, int) or exponent < 0:
-            raise ValueError(f"a power of classes is a whole number from 0 on, and not {exponent!r}")
-        result = Classes({(): 1})
-        for _ in range(exponent):
+    def __pow__(self, exponent: SupportsIndex) -> "Classes":
+        times = operator.index(exponent)
+        if times < 0:
+            raise ValueError(f"a power of classes is a whole number from 0 on, and not {times}")
+        result = Classes({(): Fraction(1)})
+        for _ in range(times):
             result = result * self
         return result
 
@@ -111,19 +116,20 @@ class Classes:
         return self * -1
 
     def __sub__(self, other: Union["Classes", Number]) -> "Classes":
-        return self + -other
+        return self + -Classes.of(other) if _is_term(other) else NotImplemented
 
     def __rsub__(self, other: Number) -> "Classes":
         return -self + other
 
     def __truediv__(self, number: Number) -> "Classes":
-        return self * (Fraction(1) / number)
+        divisor = as_fraction(number)
+        return NotImplemented if divisor is None else self * (1 / divisor)
 
     __radd__ = __add__
     __rmul__ = __mul__
 
-    def __eq__(self, other: object) -> bool:
-        if not isinstance(other, (Classes, int, Fraction)):
+    def __eq__(self, other: Any) -> bool:
+        if not _is_term(other):
             return NotImplemented
         return self._terms == Classes.of(other)._terms
 
@@ -136,6 +142,24 @@ class Classes:
     def __str__(self) -> str:
         text = " + ".join(_term_text(coefficient, monomial) for coefficient, monomial in self)
         return text.replace("+ -", "- ") or "0"
+
+
+def as_fraction(value: Any) -> Optional[Fraction]:
+    """A number as a fraction; None if it is none. In Sage a numerator is a method."""
+    if isinstance(value, bool):
+        return None
+    if isinstance(value, (int, Fraction)):
+        return Fraction(value)
+    if hasattr(value, "__index__"):
+        return Fraction(operator.index(value))
+    if isinstance(value, numbers.Rational):
+        top, bottom = (part() if callable(part) else part for part in (value.numerator, value.denominator))
+        return Fraction(int(top), int(bottom))
+    return None
+
+
+def _is_term(value: Any) -> bool:
+    return isinstance(value, Classes) or as_fraction(value) is not None
 
 
 def degree_of(monomial: Monomial, curve_degree: int) -> int:
@@ -163,12 +187,18 @@ def _product(some: Monomial, others: Monomial) -> Monomial:
     return tuple(sorted(powers.items()))
 
 
-def _single(kind: str, name: str, value: int, least: int, most: int) -> Classes:
-    if isinstance(value, bool) or not isinstance(value, int):
-        raise TypeError(f"{kind}: {name} is a whole number, and not {value!r}")
-    if not least <= value <= most:
-        raise ValueError(f"{kind}: {name} is from {least} to {most}, and not {value}")
-    return Classes({((Atom(kind, value), 1),): 1})
+def whole(name: str, value: SupportsIndex, least: int, most: int) -> int:
+    """A whole number within limits, also one of Sage or NumPy; a TypeError or a ValueError otherwise."""
+    if isinstance(value, bool) or not hasattr(value, "__index__"):
+        raise TypeError(f"{name} is a whole number, and not {value!r}")
+    number = operator.index(value)
+    if not least <= number <= most:
+        raise ValueError(f"{name} is from {least} to {most}, and not {number}")
+    return number
+
+
+def _single(kind: str, name: str, value: SupportsIndex, least: int, most: int) -> Classes:
+    return Classes({((Atom(kind, whole(f"{kind}: {name}", value, least, most)), 1),): Fraction(1)})
 
 
 def hypersurface(b: int) -> Classes:
@@ -193,7 +223,7 @@ def r1(k: int) -> Classes:
 
 def contact() -> Classes:
     """The curve is tangent to a contact distribution (in odd rank): degree `2 d - 1`."""
-    return Classes({((Atom("contact", 0), 1),): 1})
+    return Classes({((Atom("contact", 0), 1),): Fraction(1)})
 
 
 def psi(j: int) -> Classes:
@@ -207,10 +237,9 @@ def jet(mark: int, b: int, order: int) -> Classes:
     It is the product of `b H + i psi` for `i` from 0 to `order - 1`, where `H` is `mark(mark)`: order 1 says that the
     mark lies on the hypersurface, order 2 that the curve touches it there. Its degree is `order`.
     """
-    if order < 1:
-        raise ValueError(f"jet: the order of contact is at least 1, and not {order}")
     at_mark, cotangent = _single("mark", "mark", mark, 1, 12), psi(mark)
-    result = Classes({(): 1})
-    for step in range(order):
-        result = result * (b * at_mark + step * cotangent)
+    degree = whole("jet: b", b, 1, 10**9)
+    result = Classes({(): Fraction(1)})
+    for step in range(whole("jet: the order of contact", order, 1, 1000)):
+        result = result * (degree * at_mark + step * cotangent)
     return result

@@ -10,7 +10,8 @@ from __future__ import annotations
 from dataclasses import dataclass
 from fractions import Fraction
 from itertools import islice
-from typing import Dict, Iterator, List, Optional, Sequence, Tuple, Union
+from operator import index
+from typing import Any, Dict, Iterator, List, Optional, Sequence, SupportsIndex, Tuple, Union
 
 from . import choices
 from .classes import Classes, Number, degree_of, monomial_text
@@ -115,6 +116,7 @@ def compute(
         marks = max((integrand.highest_mark() for integrand in integrands), default=0)
     space = Space(rank, degree, marks)
     _compare_degrees(space, integrands)
+    weights, moduli, bounds = _plain(weights), _plain(moduli), _plain(bounds)
     sums = _Sums(space, weights, runner)
     some = pieces(integrands)
     found: List[_Found] = []
@@ -129,6 +131,11 @@ def compute(
     for piece, part in zip(some, found):
         values[piece.of] += piece.factor * part.value
     return Result(tuple(values), _are_printed(len(integrands), some, found), sums.trees, tuple(sums.runs))
+
+
+def _plain(some: Optional[Sequence[SupportsIndex]]) -> Any:
+    """Whole numbers as those of Python, in a tuple."""
+    return None if some is None else tuple(index(number) for number in some)
 
 
 def _compare_degrees(space: Space, integrands: Sequence[Classes]) -> None:
@@ -160,19 +167,19 @@ def _in_one_run(
 def _joined(sums: _Sums, group: Sequence[Piece]) -> List[_Found]:
     primes = choices.primes()
     found: Dict[int, _Found] = {}
-    residues: Dict[int, List[Residue]] = {index: [] for index in range(len(group))}
+    residues: Dict[int, List[Residue]] = {place: [] for place in range(len(group))}
     for number in range(MOST_RUNS):
-        left = [index for index in residues if index not in found]
+        left = [place for place in residues if place not in found]
         moduli = list(islice(primes, 2))
-        answer = sums.run([group[index] for index in left], moduli, choices.bounds_for(moduli))
-        for index, part in zip(left, answer.integrals):
-            residues[index] += part.residues
+        answer = sums.run([group[place] for place in left], moduli, choices.bounds_for(moduli))
+        for place, part in zip(left, answer.integrals):
+            residues[place] += part.residues
             printed = part.fraction if number == 0 else None
-            value = printed if printed is not None else small_fraction(residues[index], choices.CERTAINTY)
+            value = printed if printed is not None else small_fraction(residues[place], choices.CERTAINTY)
             if value is not None:
-                found[index] = _Found(value, printed is not None)
+                found[place] = _Found(value, printed is not None)
         if len(found) == len(group):
-            return [found[index] for index in residues]
+            return [found[place] for place in residues]
     raise NoFraction(f"no fraction was certain after {MOST_RUNS} runs of two moduli each")
 
 

@@ -7,7 +7,7 @@ from fractions import Fraction
 from math import lcm
 from typing import Iterable, List, Sequence, Tuple
 
-from .classes import Classes, Monomial, monomial_text
+from .classes import Classes, Monomial, monomial_text, whole
 
 MOST_INTEGRALS = 8
 MOST_TERMS = 32
@@ -27,11 +27,7 @@ class Space:
 
     def __post_init__(self) -> None:
         for name, least, most in (("rank", 1, 12), ("degree", 1, 10), ("marks", 0, 12)):
-            value = getattr(self, name)
-            if isinstance(value, bool) or not isinstance(value, int):
-                raise TypeError(f"{name} is a whole number, and not {value!r}")
-            if not least <= value <= most:
-                raise ValueError(f"{name} is from {least} to {most}, and not {value}")
+            object.__setattr__(self, name, whole(name, getattr(self, name), least, most))
 
 
 @dataclass(frozen=True)

@@ -4,7 +4,8 @@ from __future__ import annotations
 
 from dataclasses import dataclass
 from fractions import Fraction
-from typing import Any, Callable, Iterable, Iterator, List, Mapping, Sequence, Tuple, Union
+from operator import index
+from typing import Any, Callable, Iterable, Iterator, List, Mapping, Sequence, SupportsIndex, Tuple, Union
 
 from .computation import Integrand, compute
 
@@ -45,7 +46,7 @@ class Table:
 
 
 def table(
-    rank: int, degrees: Iterable[int], classes: Union[Column, Mapping[str, Column]], **options: Any
+    rank: int, degrees: Iterable[SupportsIndex], classes: Union[Column, Mapping[str, Column]], **options: Any
 ) -> Table:
     """A table with a row for each degree and a column for each of the classes, with the options of `compute`.
 
@@ -61,7 +62,7 @@ def table(
     """
     columns: Mapping[str, Column] = classes if isinstance(classes, Mapping) else {"number": classes}
     rows: List[Tuple[Fraction, ...]] = []
-    for degree in degrees:
+    for degree in map(index, degrees):
         integrands = [column(degree) if callable(column) else column for column in columns.values()]
         rows.append((Fraction(degree), *compute(rank, degree, integrands, **options).values))
     return Table(("degree", *columns), tuple(rows))

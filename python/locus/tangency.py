@@ -15,6 +15,7 @@ from __future__ import annotations
 
 from fractions import Fraction
 from math import factorial
+from operator import index
 from typing import Any, Dict, Iterator, List, Sequence, Tuple
 
 from .classes import Classes, incidence, mark, psi
@@ -36,7 +37,7 @@ def tangent(rank: int, degree: int, hypersurfaces: Sequence[int], classes: Integ
     if given.highest_mark():
         raise ValueError("the classes beside tangencies have no marks")
     total = Fraction(0)
-    for marks, integrand in enumerate(_integrands(rank, hypersurfaces)):
+    for marks, integrand in enumerate(_integrands(index(rank), [index(b) for b in hypersurfaces])):
         if integrand != 0:
             total += compute(rank, degree, [integrand * given], marks=marks, **options).values[0]
     return total

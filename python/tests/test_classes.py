@@ -1,5 +1,6 @@
 """The algebra of classes, and texts as classes."""
 
+import numbers
 import unittest
 from fractions import Fraction
 
@@ -17,6 +18,32 @@ class Algebra(unittest.TestCase):
         self.assertEqual(2 * mark(1) + 1, 1 + mark(1) * 2)
         self.assertEqual(1 - mark(1), -(mark(1) - 1))
         self.assertEqual(mark(1) / 3, mark(1) * Fraction(1, 3))
+
+    def test_whole_numbers_and_fractions_of_other_packages_are_taken(self):
+        class Whole:
+            """As an integer of Sage or NumPy."""
+
+            def __init__(self, value):
+                self.value = value
+
+            def __index__(self):
+                return self.value
+
+        class Ratio:
+            """As a rational of Sage, whose numerator is a method."""
+
+            def numerator(self):
+                return 2
+
+            def denominator(self):
+                return 3
+
+        numbers.Rational.register(Ratio)
+        two = Whole(2)
+        self.assertEqual(incidence(two) ** two * two, 2 * incidence(2) ** 2)
+        self.assertEqual(two * mark(1) - two, 2 * mark(1) - 2)
+        self.assertEqual(mark(1) / two + Ratio(), mark(1) / 2 + Fraction(2, 3))
+        self.assertEqual(jet(Whole(1), two, two), jet(1, 2, 2))
 
     def test_equal_classes_have_equal_hashes(self):
         self.assertEqual(len({mark(1) * psi(1), psi(1) * mark(1)}), 1)
