@@ -111,26 +111,26 @@ def compute(
     a wrong one passes with a chance of about 10^-10. With `check` each number is compared with one further run, with
     other weights and another modulus.
     """
-    integrands = [Classes.of(value) for value in classes]
+    integrands = _integrands(classes)
     if marks is None:
         marks = max((integrand.highest_mark() for integrand in integrands), default=0)
     space = Space(rank, degree, marks)
     _compare_degrees(space, integrands)
-    weights, moduli, bounds = _plain(weights), _plain(moduli), _plain(bounds)
-    sums = _Sums(space, weights, runner)
+    sums = _Sums(space, _plain(weights), runner)
     some = pieces(integrands)
-    found: List[_Found] = []
-    for group in groups(some):
-        if moduli is None and bounds is None:
-            found += _joined(sums, group)
-        else:
-            found += _in_one_run(sums, group, moduli, bounds)
+    found = _found(sums, some, _plain(moduli), _plain(bounds))
     if check:
         _check(_Sums(space, None, runner, attempt=MOST_ATTEMPTS), sums, some, found)
     values = [Fraction(0)] * len(integrands)
     for piece, part in zip(some, found):
         values[piece.of] += piece.factor * part.value
     return Result(tuple(values), _are_printed(len(integrands), some, found), sums.trees, tuple(sums.runs))
+
+
+def _integrands(classes: Sequence[Integrand]) -> List[Classes]:
+    if isinstance(classes, (str, Classes)):
+        raise TypeError("`compute` takes a list of classes, and `gw` takes one")
+    return [Classes.of(value) for value in classes]
 
 
 def _plain(some: Optional[Sequence[SupportsIndex]]) -> Any:
@@ -149,6 +149,18 @@ def _compare_degrees(space: Space, integrands: Sequence[Classes]) -> None:
                     f"{dimension} = ({space.rank} + 1) * {space.degree} + {space.rank} - 3 + {space.marks}: "
                     "the degree of each term has to be the dimension"
                 )
+
+
+def _found(
+    sums: _Sums, some: Sequence[Piece], moduli: Optional[Sequence[int]], bounds: Optional[Tuple[int, int]]
+) -> List[_Found]:
+    found: List[_Found] = []
+    for group in groups(some):
+        if moduli is None and bounds is None:
+            found += _joined(sums, group)
+        else:
+            found += _in_one_run(sums, group, moduli, bounds)
+    return found
 
 
 def _in_one_run(

@@ -146,6 +146,8 @@ class Choices(unittest.TestCase):
             gw(2, 2, incidence(2) ** 4)
         with self.assertRaises(ValueError):
             gw(13, 1, 1)
+        with self.assertRaises(TypeError):
+            compute(3, 1, "hypersurface(3)")
 
     def test_a_refusal_names_its_rule(self):
         with self.assertRaises(locus.Refused) as raised:
