@@ -1,7 +1,7 @@
-"""Runs what docs/GUIDE.md, README.md of this folder and that of the repository show, as it is written.
+"""Runs what the guide, the README of the repository and that of the companion show, as it is written.
 
-A block in TOML that begins with the comment `# NAME.toml` is a file of this name. A block that begins with `$` is a
-command and what it prints on standard output. A block in Python is a session; those of a page share their names.
+A block in TOML that begins with the comment `# NAME.toml` is a file of this name. A block that begins with `$` has
+commands, and what they print on standard output. A block in Python is a session; those of a page share their names.
 """
 
 import contextlib
@@ -36,6 +36,9 @@ class Pages(unittest.TestCase):
     def test_the_guide(self):
         self.assertGreater(self.run_page(ROOT / "docs" / "GUIDE.md"), 15)
 
+    def test_the_first_page(self):
+        self.assertGreater(self.run_page(ROOT / "README.md"), 2)
+
     def test_the_page_of_the_companion(self):
         self.assertGreater(self.run_page(PYTHON / "README.md"), 5)
 
@@ -49,8 +52,9 @@ class Pages(unittest.TestCase):
                 (self.folder / named[1]).write_text(text, encoding="utf-8")
             elif language == "python":
                 self.run_session(text, names)
-            elif text.startswith("$ "):
-                self.run_command(*text[2:].split("\n", 1))
+            else:
+                for command in re.split(r"^\$ ", text, flags=re.M)[1:]:
+                    self.run_command(*command.split("\n", 1))
         return len(blocks)
 
     def run_session(self, text, names):
