@@ -63,13 +63,14 @@ class Ended:
 
 def find(program: Optional[Path] = None) -> str:
     """The program: the one that is given, or that of the environment variable LOCUS, or the one that is built in the
-    repository, or `locus` on the PATH; the first that there is. ProgramNotFound if there is none, or if one that was
-    named is not there."""
+    repository, or `locus` on the PATH; the first that there is. A name without a folder is looked for on the PATH, and
+    then here. ProgramNotFound if there is none, or if one that was named is not there."""
     for named, whose in ((program, "the argument"), (os.environ.get("LOCUS"), "the environment variable LOCUS")):
         if named:
-            if not os.access(named, os.X_OK) or os.path.isdir(named):
+            found = shutil.which(os.fspath(named)) or shutil.which(os.path.abspath(named))
+            if found is None:
                 raise ProgramNotFound(f"{os.fspath(named)}, which {whose} names, is no program")
-            return os.path.abspath(named)
+            return os.path.abspath(found)
     if os.access(BUILT, os.X_OK):
         return str(BUILT)
     on_path = shutil.which("locus")

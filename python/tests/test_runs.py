@@ -15,7 +15,7 @@ import locus
 from locus import Runner, runs
 from locus.__main__ import main
 from locus.program import Ended, sum_of
-from locus.progress import Plain
+from locus.progress import Plain, bar
 
 PYTHON = pathlib.Path(__file__).resolve().parent.parent
 QUARTICS = """version = 1
@@ -68,6 +68,8 @@ class Finding(InFolder):
         with mock.patch.dict(os.environ, LOCUS=str(other)):
             self.assertEqual(locus.find(one), str(one))
             self.assertEqual(locus.find(), str(other))
+        with mock.patch.dict(os.environ, LOCUS="one", PATH=str(self.folder)):
+            self.assertEqual(locus.find(), str(one))
         nowhere = mock.patch("locus.program.BUILT", self.folder / "none")
         with nowhere, mock.patch.dict(os.environ, LOCUS="", PATH=str(self.folder)):
             self.assertEqual(locus.find(), str(other))
@@ -169,13 +171,27 @@ class Answers(unittest.TestCase):
 
     def test_a_bar_says_how_far_and_how_long(self):
         out = io.StringIO()
-        bar = Plain(200, out)
+        shown = Plain(200, out)
         with mock.patch("time.monotonic", side_effect=[0.0, 10.0]):
-            bar.to(100)
-            bar.to(150)
-        bar.close()
+            shown.to(100)
+            shown.to(150)
+        shown.close()
         self.assertIn("100 of 200 trees", out.getvalue())
         self.assertIn("150 of 200 trees, 0:10 left", out.getvalue())
+
+
+    def test_the_bar_is_that_of_tqdm_if_it_is_there(self):
+        made = mock.Mock(n=0)
+        module = mock.Mock(tqdm=mock.Mock(return_value=made))
+        with mock.patch.dict(sys.modules, {"tqdm": mock.Mock(auto=module), "tqdm.auto": module}):
+            shown = bar(True, 200)
+        shown.to(150)
+        shown.close()
+        module.tqdm.assert_called_once_with(total=200, unit=" trees", unit_scale=True)
+        made.update.assert_called_once_with(150)
+        made.close.assert_called_once_with()
+        with mock.patch.dict(sys.modules, {"tqdm": None, "tqdm.auto": None}):
+            self.assertIsInstance(bar(True, 200), Plain)
 
 
 class CommandLine(InFolder):
