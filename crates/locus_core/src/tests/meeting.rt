@@ -11,6 +11,7 @@ use std::thread::Threads;
 use worker_pool::{Hold, MeetingGate};
 
 // A run on two workers: its words, the text of its file, what it tells, and how many blocks it works.
+#[derive(Drop)]
 struct Meeting<'a> {
     words: &'a [&'a str],
     text: &'a str,
