@@ -15,7 +15,7 @@ use Rattle.checkpoint.specs.Texts.{IsTextOf}
 use Rattle.locus_core.specs.Words.{AsksFor, AskNothing}
 use Rattle.locus_core.specs.Outside.{Change, FilesState, StopperState, Holds, TakesText}
 use Rattle.locus_core.specs.Begins.{Beginning, Begins}
-use Rattle.locus_core.specs.Comes.{Comes, summed, made, Sums, IsAnswer, done, paused, no_inverse, file_of_request}
+use Rattle.locus_core.specs.Comes.{Comes, summed, made, RunsRounds, IsAnswer, done, paused, no_inverse, file_of_request}
 use Rattle.locus_core.specs.Ends.{Run, Ends, printed, words_refused, problem_refused, read_fault, write_fault, checkpoint_refused, want_of_memory}
 use Rattle.locus_core.specs.Headline.{IsDoneStatus, IsPrintedStatus, IsStatus, AsksOf, IsNoCheckpoint, Accepts, NeedsItsFile, Makes, MakesProblem}
 use Rattle.locus_core.proofs.Inversions.{same_request, same_bytes, same_file, run_not_resume, run_not_make, resume_not_make, begun_by_run, begun_by_resume, make_begins_nothing, not_both_states}
@@ -38,7 +38,7 @@ pub record CameBySum (files : Change FilesState) (stopper : Change StopperState)
   pub beginning : Beginning
   pub outcome : Outcome
   pub begins : Begins files request beginning
-  pub sums : Sums beginning stopper shares outcome
+  pub sums : RunsRounds beginning stopper shares outcome
   pub answer : IsAnswer beginning outcome n text
 
 pub record CameByMake (request : Request) (n : ℕ) (text : List ℕ) : Type 0 where

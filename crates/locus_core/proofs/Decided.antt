@@ -18,7 +18,7 @@ use Rattle.rounds.specs.declared.progress.Outcome.{Outcome}
 use Rattle.command_line.specs.Requests.{Request, Sum, run, resume}
 use Rattle.locus_core.specs.Outside.{Change, StopperState, HasStopped}
 use Rattle.locus_core.specs.Begins.{Beginning, Begins, IsTrueBeginning}
-use Rattle.locus_core.specs.Comes.{Sums, IsAnswer, done, paused, no_inverse, file_of_request}
+use Rattle.locus_core.specs.Comes.{RunsRounds, IsAnswer, done, paused, no_inverse, file_of_request}
 use Rattle.locus_core.specs.Ends.{Run, Ends, printed, words_refused, problem_refused, read_fault, write_fault, checkpoint_refused, want_of_memory}
 use Rattle.locus_core.specs.Headline.{IsDoneStatus, NamesBadTrees, end_of, IsStatusOf, IsDecided}
 use Rattle.locus_core.proofs.TrueSums.{none_bad_before, true_at}
@@ -51,7 +51,7 @@ no_bad_tree s budget k residues rules d truth (g, i, bad) =
     none_bad_trees p.weights p.integrals p.moduli p.shape (small_degree p rules)
     (none_append (is_bad_of p) 0 s.next (count_of p) (none_bad_before s rules truth) d.summed.none_bad) g i bad
 
-four_is : (b : Beginning) (stopper : Change StopperState) (shares : List ℕ) (outcome : Outcome) (n : ℕ) (text : List ℕ) → Sums b stopper shares outcome
+four_is : (b : Beginning) (stopper : Change StopperState) (shares : List ℕ) (outcome : Outcome) (n : ℕ) (text : List ℕ) → RunsRounds b stopper shares outcome
     → IsAnswer b outcome n text → IsTrueBeginning b → IsDoneStatus n ⊎ (n ≡ 4) → (n ≡ 4) ↔ HasBadTree b.sum.problem
 four_is b stopper shares _ _ _ sums (done residues fractions are) truth is = (
   λ four. absurd (not_four (done_is fractions) four),
@@ -104,7 +104,7 @@ pub paused_end : (count first budget k next : ℕ) → next ≡ reached first (b
 paused_end count first budget k next at left late =
     ⊎_elim (λ early. absurd (late early)) (λ reached. omega (arith, at, left, reached)) (cases_lt next (first + budget))
 
-answered : (b : Beginning) (stopper : Change StopperState) (shares : List ℕ) (outcome : Outcome) (n : ℕ) (text : List ℕ) → Sums b stopper shares outcome
+answered : (b : Beginning) (stopper : Change StopperState) (shares : List ℕ) (outcome : Outcome) (n : ℕ) (text : List ℕ) → RunsRounds b stopper shares outcome
     → IsAnswer b outcome n text → ¬ Rose stopper.before.stops stopper.after.stops → IsStatusOf b n
 answered b stopper shares _ _ _ sums (done residues fractions are) still =
     let d : IsDone b.sum b.plan.budget sums.progress.rounds residues = sums.progress.outcome in

@@ -7,7 +7,7 @@ use Rattle.checkpoint.specs.declared.error.CheckpointError.{CheckpointError}
 use Rattle.locus_core.specs.Texts.{refused_line, refused_checkpoint_line}
 use Rattle.locus_core.specs.declared.work.Refusal.TheVariants as refusal
 use Rattle.locus_core.specs.Words.{AsksFor}
-use Rattle.locus_core.specs.Outside.{Unchanged, Tells, Change, SinkState}
+use Rattle.locus_core.specs.Outside.{Unchanged, Sends, Change, SinkState}
 use Rattle.locus_core.specs.Comes.{Comes}
 use Rattle.locus_core.specs.Ends as ends
 use Rattle.locus_core.specs.Ends.{Run, Ends, IsIdle}
@@ -97,13 +97,13 @@ words_end run answer files still out none (unread request is asks told) =
 
 -- ---- a refusal is told, or there was no memory for its line
 pub problem_refuses : {V : Type 0} (items : V → List ℕ) (err : Change SinkState) (answer : ℕ) (error : ProblemError) (r : Result V NoMemory)
-    → IfOk r (λ line. items line ≡ refused_line error) → IfOk r (λ line. (answer ≡ 3) × Tells err (items line))
-    → (IsErr r → (answer ≡ 9) × Tells err (codes "want of memory\n")) → Refuses err answer (refusal.Problem error)
-problem_refuses items err answer error (Ok line) same told none = steps.problem error told.0 (subst (Tells err) same told.1)
+    → IfOk r (λ line. items line ≡ refused_line error) → IfOk r (λ line. (answer ≡ 3) × Sends err (items line))
+    → (IsErr r → (answer ≡ 9) × Sends err (codes "want of memory\n")) → Refuses err answer (refusal.Problem error)
+problem_refuses items err answer error (Ok line) same told none = steps.problem error told.0 (subst (Sends err) same told.1)
 problem_refuses items err answer error (Err e) same told none = steps.unheard_problem error (none refl).0 (none refl).1
 
 pub checkpoint_refuses : {V : Type 0} (items : V → List ℕ) (err : Change SinkState) (answer : ℕ) (error : CheckpointError) (r : Result V NoMemory)
-    → IfOk r (λ line. items line ≡ refused_checkpoint_line error) → IfOk r (λ line. (answer ≡ 8) × Tells err (items line))
-    → (IsErr r → (answer ≡ 9) × Tells err (codes "want of memory\n")) → Refuses err answer (refusal.Checkpoint error)
-checkpoint_refuses items err answer error (Ok line) same told none = steps.checkpoint error told.0 (subst (Tells err) same told.1)
+    → IfOk r (λ line. items line ≡ refused_checkpoint_line error) → IfOk r (λ line. (answer ≡ 8) × Sends err (items line))
+    → (IsErr r → (answer ≡ 9) × Sends err (codes "want of memory\n")) → Refuses err answer (refusal.Checkpoint error)
+checkpoint_refuses items err answer error (Ok line) same told none = steps.checkpoint error told.0 (subst (Sends err) same told.1)
 checkpoint_refuses items err answer error (Err e) same told none = steps.unheard_checkpoint error (none refl).0 (none refl).1

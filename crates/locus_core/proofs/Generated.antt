@@ -5,14 +5,13 @@ use Rattle.problem.specs.Rules.{ProblemView, KeepsRules}
 use Rattle.problem.specs.Sums.{places_of}
 use Rattle.problem_toml.specs.Generator.{generated_problem}
 use Rattle.checkpoint.specs.States.{AreResidues}
-use Rattle.rounds.specs.Outcomes.{IsProgress, IsEarly, IsOutcome}
+use Rattle.rounds.specs.Outcomes.{IsProgress, IsEarly}
 use Rattle.rounds.specs.declared.progress.Progress.{Progress}
 use Rattle.rounds.specs.declared.progress.Outcome.{Outcome}
-use Rattle.rounds.specs.declared.progress.Outcome.TheVariants.{Done, Paused, NoInverse}
 use Rattle.locus_io.specs.Causes.{Stayed}
 use Rattle.locus_core.specs.Outside.{Change, StopperState}
 use Rattle.locus_core.specs.Begins.{fresh_sum, of_number}
-use Rattle.locus_core.specs.Steps.{Continues, IsNoPause, IsReportOf}
+use Rattle.locus_core.specs.Steps.{Continues, IsReportOf}
 use Rattle.locus_core.proofs.Reported.{stayed, headed}
 
 -- no sums yet
@@ -41,17 +40,6 @@ pub fresh : (p : ProblemView) (number : ℕ) → p ≡ generated_problem number
 fresh p number is =
     subst (λ xs. record { problem = p; next = 0; residues = xs } ≡ fresh_sum (generated_problem number)) (two_places number)
     (λ i. record { problem = is i; next = 0; residues = no_sums (generated_problem number) })
-
--- a sum from the first tree on, under the greatest budget and without a name for stops, does not pause
-pub never_pauses : (p : ProblemView) (residues : List ℕ) (outcome : Outcome) (rounds : ℕ) → KeepsRules p
-    → IsOutcome (record { problem = p; next = 0; residues = residues }) (2 ^ 40) rounds outcome
-    → ¬ IsEarly (record { problem = p; next = 0; residues = residues }) (2 ^ 40) outcome → IsNoPause outcome
-never_pauses p residues (Done final) rounds rules is late = tt
-never_pauses p residues (NoInverse number modulus) rounds rules is late = tt
-never_pauses p residues (Paused next final) rounds rules is late =
-    let few = rules.few_trees in
-    let left = is.left in
-    late (omega (arith, few, left))
 
 -- what a call that runs rounds says, of the sum of a generated problem
 pub soaks : (p : ProblemView) (number workers : ℕ) (stopper : Change StopperState) (progress : Progress) (status : ℕ) (text given whole : List ℕ)

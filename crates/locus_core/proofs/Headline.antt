@@ -21,7 +21,7 @@ use Rattle.command_line.specs.Requests.{Request, make}
 use Rattle.locus_core.specs.Words.{AsksFor}
 use Rattle.locus_core.specs.Outside.{Change, FilesState, StopperState, Unchanged, TakesText, BreaksOff}
 use Rattle.locus_core.specs.Begins.{Beginning, Begins, by_run, by_resume, by_soak, IsTrueBeginning}
-use Rattle.locus_core.specs.Comes.{Comes, summed, made, Sums, IsAnswer, done, paused, no_inverse}
+use Rattle.locus_core.specs.Comes.{Comes, summed, made, RunsRounds, IsAnswer, done, paused, no_inverse}
 use Rattle.locus_core.specs.Ends.{Run, Printed, WordsRefused, ProblemRefused, CheckpointRefused, ReadFault, WriteFault, WantOfMemory, Ends, printed, words_refused, problem_refused, read_fault, write_fault, checkpoint_refused, want_of_memory}
 use Rattle.locus_core.specs.Headline.{IsDoneStatus, IsPrintedStatus, end_of, PrintsSums, PrintsItsSums, NamesLeast, PrintsCheckpoint, SharesBlocks, IsMaking, IsSilentStatus, ClaimsBlocks, WritesBytes}
 use Rattle.locus_core.proofs.TrueSums.{none_bad_before, true_at}
@@ -46,7 +46,7 @@ reads_source files _ _ source (by_soak number workers) is = absurd (let f : ⊥ 
 
 -- ---- what was printed
 sums_printed : (r : Run) (request : Request) (b : Beginning) (o : Outcome) (n : ℕ) (text : List ℕ) → AsksFor r.words request → Begins r.files request b
-    → Sums b r.stopper r.shares o → IsAnswer b o n text → TakesText r.out text → IsDoneStatus n → PrintsSums r n
+    → RunsRounds b r.stopper r.shares o → IsAnswer b o n text → TakesText r.out text → IsDoneStatus n → PrintsSums r n
 sums_printed r request b _ _ _ asks begins sums (done residues fractions are) out is =
     let d : IsDone b.sum b.plan.budget sums.progress.rounds residues = sums.progress.outcome in
     let truth = keeps_truth b.sum b.plan.budget sums.progress.rounds (Done residues) sums.rules (within r.files request b begins) sums.progress.outcome in
@@ -146,7 +146,7 @@ from_first s number none l = record {
 }
 
 least_printed : (r : Run) (request : Request) (b : Beginning) (o : Outcome) (n : ℕ) (text : List ℕ) → AsksFor r.words request → Begins r.files request b
-    → Sums b r.stopper r.shares o → IsAnswer b o n text → TakesText r.out text → n ≡ 4 → NamesLeast r
+    → RunsRounds b r.stopper r.shares o → IsAnswer b o n text → TakesText r.out text → n ≡ 4 → NamesLeast r
 least_printed r request b _ _ _ asks begins sums (no_inverse number index) out is =
     let h : IsNoInverse b.sum b.plan.budget sums.progress.rounds number index = sums.progress.outcome in
     let least = least_of_rounds b.sum b.plan.budget sums.progress.rounds number index h in
@@ -183,7 +183,7 @@ before_end : (b : Beginning) (next : ℕ) → next < b.sum.next + b.plan.budget 
 before_end b next early left = omega (arith, early, left)
 
 pause_printed : (r : Run) (request : Request) (b : Beginning) (o : Outcome) (n : ℕ) (text : List ℕ) → AsksFor r.words request → Begins r.files request b
-    → Sums b r.stopper r.shares o → IsAnswer b o n text → TakesText r.out text → n ≡ 5 → PrintsCheckpoint r
+    → RunsRounds b r.stopper r.shares o → IsAnswer b o n text → TakesText r.out text → n ≡ 5 → PrintsCheckpoint r
 pause_printed r request b _ _ _ asks begins sums (paused source next residues same) out is =
     let h : IsPaused b.sum b.plan.budget sums.progress.rounds next residues = sums.progress.outcome in
     let left = h.left in

@@ -13,7 +13,7 @@ use Rattle.rounds.specs.declared.progress.Progress.{Progress}
 use Rattle.rounds.specs.declared.progress.Outcome.{Outcome}
 use Rattle.rounds.specs.declared.progress.Outcome.TheVariants.{Done, Paused, NoInverse}
 use Rattle.report.specs.Statuses.{code_of}
-use Rattle.locus_core.specs.Begins.{Beginning, Plan, of_state}
+use Rattle.locus_core.specs.Begins.{Beginning, SumPlan, of_state}
 use Rattle.locus_core.specs.Comes.{IsAnswer, done, paused, no_inverse}
 use Rattle.locus_core.specs.Outside.{Change, Unchanged, StopperState, HasStopped}
 use Rattle.locus_core.specs.Steps.{IsReportOf, Continues}
@@ -34,7 +34,7 @@ no_inverse_answer b number modulus status text s t =
 
 pub done_reported : (state : StateView) (outcome : Outcome) (p : ProblemView) (residues given : List ℕ) (r : Result Report NoMemory)
     → outcome ≡ Done residues → p ≡ state.problem → given ≡ residues → IfOk r (λ report. IsDoneReport p given (code_of report.status) report.text.items)
-    → IfOk r (λ report. (plan : Plan) → IsAnswer (of_state state plan) outcome (code_of report.status) report.text.items)
+    → IfOk r (λ report. (plan : SumPlan) → IsAnswer (of_state state plan) outcome (code_of report.status) report.text.items)
 done_reported state outcome p residues given (Err e) is same items h = tt
 done_reported state outcome p residues given (Ok report) is same items h = λ plan.
     subst (λ o. IsAnswer (of_state state plan) o (code_of report.status) report.text.items) (sym is)
@@ -45,14 +45,14 @@ done_reported state outcome p residues given (Ok report) is same items h = λ pl
 pub no_inverse_reported : (state : StateView) (outcome : Outcome) (p : ProblemView) (number modulus : ℕ) (r : Result Report NoMemory)
     → outcome ≡ NoInverse number modulus → p ≡ state.problem → IfOk r (λ report. code_of report.status ≡ 4)
     → IfOk r (λ report. report.text.items ≡ no_inverse_text p number modulus)
-    → IfOk r (λ report. (plan : Plan) → IsAnswer (of_state state plan) outcome (code_of report.status) report.text.items)
+    → IfOk r (λ report. (plan : SumPlan) → IsAnswer (of_state state plan) outcome (code_of report.status) report.text.items)
 no_inverse_reported state outcome p number modulus (Err e) is same s t = tt
 no_inverse_reported state outcome p number modulus (Ok report) is same s t = λ plan.
     subst (λ o. IsAnswer (of_state state plan) o (code_of report.status) report.text.items) (sym is)
     (no_inverse_answer (of_state state plan) number modulus (code_of report.status) report.text.items s
     (t ∙ ap (λ q. no_inverse_text q number modulus) same))
 
-pub paused_reported : (state new : StateView) (outcome : Outcome) (next : ℕ) (residues text : List ℕ) (plan : Plan) → outcome ≡ Paused next residues
+pub paused_reported : (state new : StateView) (outcome : Outcome) (next : ℕ) (residues text : List ℕ) (plan : SumPlan) → outcome ≡ Paused next residues
     → new ≡ record state { next = next; residues = residues } → text ≡ text_in 2 new → IsAnswer (of_state state plan) outcome 5 text
 paused_reported state new outcome next residues text plan is same written =
     subst (λ o. IsAnswer (of_state state plan) o 5 text) (sym is)
@@ -81,7 +81,7 @@ stop_named text None P h = (h.0, tt)
 stop_named text (Some name) P h = (refl, h.1)
 
 -- what a call that runs rounds says, of a sum that is begun
-pub goes_on : (state : StateView) (plan : Plan) (stopper : Change StopperState) (progress : Progress) (status : ℕ) (text : List ℕ)
+pub goes_on : (state : StateView) (plan : SumPlan) (stopper : Change StopperState) (progress : Progress) (status : ℕ) (text : List ℕ)
     → KeepsRules state.problem → IsProgress (sum_of state) plan.budget plan.workers progress
     → (IsEarly (sum_of state) plan.budget progress.outcome → IsSome plan.stop_file × IfSome plan.stop_file (λ name. HasStopped stopper name))
     → (¬ IsEarly (sum_of state) plan.budget progress.outcome

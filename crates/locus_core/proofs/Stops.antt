@@ -5,7 +5,7 @@ use Rattle.command_line.specs.Requests.{Request}
 use Rattle.locus_core.specs.Words.{AsksFor}
 use Rattle.locus_core.specs.Outside.{Change, FilesState, StopperState, Unchanged, HasStopped}
 use Rattle.locus_core.specs.Begins.{Beginning, Begins, by_run, by_resume, by_soak}
-use Rattle.locus_core.specs.Comes.{Comes, summed, made, Sums, IsAnswer, done, paused, no_inverse, stop_file_of, MayHaveStopped}
+use Rattle.locus_core.specs.Comes.{Comes, summed, made, RunsRounds, IsAnswer, done, paused, no_inverse, stop_file_of, MayHaveStopped}
 use Rattle.locus_core.specs.Ends.{Run, Ends, printed, words_refused, problem_refused, read_fault, write_fault, checkpoint_refused, want_of_memory}
 use Rattle.locus_core.specs.Headline.{HasStopFile, HeedsStops}
 
@@ -32,7 +32,7 @@ asked_for r request o asks same h =
 
 -- a sum was stopped only if it paused
 by_answer : (r : Run) (request : Request) (b : Beginning) {o : _} {n : ℕ} {text : List ℕ} → AsksFor r.words request → Begins r.files request b
-    → Sums b r.stopper r.shares o → IsAnswer b o n text → Unchanged r.stopper ⊎ (HasStopFile r × (n ≡ 5))
+    → RunsRounds b r.stopper r.shares o → IsAnswer b o n text → Unchanged r.stopper ⊎ (HasStopFile r × (n ≡ 5))
 by_answer r request b asks begins sums (done residues fractions are) = inl (sums.kept (λ early. early))
 by_answer r request b asks begins sums (no_inverse number index) = inl (sums.kept (λ early. early))
 by_answer r request b asks begins sums (paused source next residues same) =

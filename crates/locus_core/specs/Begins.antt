@@ -11,13 +11,13 @@ use Rattle.command_line.specs.Requests.{Request, Sum, run, resume, soak}
 use Rattle.locus_core.specs.Outside.{Change, FilesState, Holds}
 
 -- by how many workers a sum is done, for at most how many trees, and the name of the file at whose presence it pauses
-pub record Plan : Type 0 where
+pub record SumPlan : Type 0 where
   pub workers : ℕ
   pub budget : ℕ
   pub stop_file : Option (List ℕ)
 
 -- the plan of the words
-abbrev pub plan_of : Sum → Plan
+abbrev pub plan_of : Sum → SumPlan
 plan_of s = record { workers = s.workers; budget = s.budget; stop_file = s.stop_file }
 
 -- A sum as it begins: the text of its problem, if there is one; the number of the first tree that is summed, and the
@@ -25,7 +25,7 @@ plan_of s = record { workers = s.workers; budget = s.budget; stop_file = s.stop_
 pub record Beginning : Type 0 where
   pub source : Option (List ℕ)
   pub sum : SumView
-  pub plan : Plan
+  pub plan : SumPlan
   pub heading : List ℕ
 
 -- no tree is summed yet
@@ -33,11 +33,11 @@ abbrev pub fresh_sum : ProblemView → SumView
 fresh_sum p = record { problem = p; next = 0; residues = replicate (places_of p) 0 }
 
 -- the sum of a problem text
-abbrev pub of_text : List ℕ → ProblemView → Plan → Beginning
+abbrev pub of_text : List ℕ → ProblemView → SumPlan → Beginning
 of_text bytes p plan = record { source = Some bytes; sum = fresh_sum p; plan = plan; heading = [] }
 
 -- the rest of a sum that was paused
-abbrev pub of_state : StateView → Plan → Beginning
+abbrev pub of_state : StateView → SumPlan → Beginning
 of_state state plan = record { source = Some state.source; sum = sum_of state; plan = plan; heading = [] }
 
 -- the sum of the generated problem of a number, which is neither paused nor stopped

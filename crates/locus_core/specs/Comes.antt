@@ -18,7 +18,7 @@ use Rattle.locus_core.specs.Begins.{Beginning, Begins}
 
 -- Rounds were run from the beginning on, as many as the budget gives or up to the first that has a bad tree, and the
 -- workers share their blocks. They ended before the budget's end only if a stop was asked for under the plan's name.
-pub record Sums (b : Beginning) (stopper : Change StopperState) (shares : List ℕ) (outcome : Outcome) : Type 0 where
+pub record RunsRounds (b : Beginning) (stopper : Change StopperState) (shares : List ℕ) (outcome : Outcome) : Type 0 where
   pub rules : KeepsRules b.sum.problem
   pub progress : IsProgress b.sum b.plan.budget b.plan.workers (record { outcome = outcome; shares = shares })
   pub stopped : IsEarly b.sum b.plan.budget outcome
@@ -41,7 +41,7 @@ pub data IsAnswer (b : Beginning) : Outcome → ℕ → List ℕ → Type 0 wher
 -- A sum was begun, and this is its answer; or a text was made that reads as the generated problem of a number.
 pub data Comes (files : Change FilesState) (stopper : Change StopperState) (shares : List ℕ) : Request → ℕ → List ℕ → Type 0 where
   summed : (request : Request) (b : Beginning) (outcome : Outcome) (status : ℕ) (text : List ℕ) → Begins files request b
-      → Sums b stopper shares outcome → IsAnswer b outcome status text → Comes files stopper shares request status text
+      → RunsRounds b stopper shares outcome → IsAnswer b outcome status text → Comes files stopper shares request status text
   made : (number : ℕ) (text : List ℕ) → reading_of_any_length text ≡ Ok (generated_problem number) → shares ≡ []
       → Unchanged stopper → Comes files stopper shares (make number) 0 text
 

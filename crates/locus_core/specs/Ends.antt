@@ -8,7 +8,7 @@ use Rattle.command_words.specs.Words.{AreRefusedFirst}
 use Rattle.command_line.specs.Requests.{Request, Sum, run, resume}
 use Rattle.locus_core.specs.Words.{AsksFor, AskNothing}
 use Rattle.locus_core.specs.Texts.{refused_line, refused_checkpoint_line}
-use Rattle.locus_core.specs.Outside.{Change, Unchanged, FilesState, StopperState, SinkState, Holds, HasFaultAt, TakesText, BreaksOff, Tells}
+use Rattle.locus_core.specs.Outside.{Change, Unchanged, FilesState, StopperState, SinkState, Holds, HasFaultAt, TakesText, BreaksOff, Sends}
 use Rattle.locus_core.specs.Comes.{Comes, file_of_request, MayHaveStopped}
 
 -- A run as it is seen from outside: its words, its files, the output, standard error and the stopper, and how many blocks
@@ -27,31 +27,31 @@ run_of words files out err stopper shares =
     record { words = words; files = files; out = out; err = err; stopper = stopper; shares = shares }
 
 -- nothing was printed, nobody asked for a stop, and there are no shares
-pub record IsIdle (run : Run) : Type 0 where
-  pub out : Unchanged run.out
-  pub stopper : Unchanged run.stopper
-  pub shares : run.shares ≡ []
+pub record IsIdle (r : Run) : Type 0 where
+  pub out : Unchanged r.out
+  pub stopper : Unchanged r.stopper
+  pub shares : r.shares ≡ []
 
 -- What the words ask for came to this text, which was printed whole.
-pub record Printed (run : Run) (status : ℕ) : Type 0 where
+pub record Printed (r : Run) (status : ℕ) : Type 0 where
   pub request : Request
   pub text : List ℕ
-  pub words : AsksFor run.words request
-  pub comes : Comes run.files run.stopper run.shares request status text
-  pub files : Unchanged run.files
-  pub out : TakesText run.out text
-  pub err : Unchanged run.err
+  pub words : AsksFor r.words request
+  pub comes : Comes r.files r.stopper r.shares request status text
+  pub files : Unchanged r.files
+  pub out : TakesText r.out text
+  pub err : Unchanged r.err
 
--- The words ask for nothing. A text is told, which is `words refused` if a word is refused at the first look.
-pub record WordsRefused (run : Run) : Type 0 where
-  pub words : AskNothing run.words
+-- The words ask for nothing. A text is written, which is `words refused` if a word is refused at the first look.
+pub record WordsRefused (r : Run) : Type 0 where
+  pub words : AskNothing r.words
   pub text : List ℕ
-  pub first_look : AreRefusedFirst run.words → text ≡ codes "words refused\n"
-  pub files : Unchanged run.files
-  pub idle : IsIdle run
-  pub err : Tells run.err text
+  pub first_look : AreRefusedFirst r.words → text ≡ codes "words refused\n"
+  pub files : Unchanged r.files
+  pub idle : IsIdle r
+  pub err : Sends r.err text
 
--- The file of a sum was read, and its bytes write no problem. The first rule that they break is told.
+-- The file of a sum was read, and its bytes write no problem. The line names the first rule that they break.
 pub record ProblemRefused (r : Run) : Type 0 where
   pub sum : Sum
   pub bytes : List ℕ
@@ -61,9 +61,10 @@ pub record ProblemRefused (r : Run) : Type 0 where
   pub refused : reading bytes ≡ Err error
   pub files : Unchanged r.files
   pub idle : IsIdle r
-  pub err : Tells r.err (refused_line error)
+  pub err : Sends r.err (refused_line error)
 
--- The file of a paused sum was read, and its bytes are the text of no state. Their first refusal is told.
+-- The file of a paused sum was read, and its bytes are the text of no state. The line names their first
+-- refusal.
 pub record CheckpointRefused (r : Run) : Type 0 where
   pub sum : Sum
   pub bytes : List ℕ
@@ -73,45 +74,45 @@ pub record CheckpointRefused (r : Run) : Type 0 where
   pub refused : IsCheckpointRefusal bytes error
   pub files : Unchanged r.files
   pub idle : IsIdle r
-  pub err : Tells r.err (refused_checkpoint_line error)
+  pub err : Sends r.err (refused_checkpoint_line error)
 
 -- A load of the file that is asked for failed: the files counted a fault at its name.
-pub record ReadFault (run : Run) : Type 0 where
+pub record ReadFault (r : Run) : Type 0 where
   pub request : Request
   pub name : List ℕ
-  pub words : AsksFor run.words request
+  pub words : AsksFor r.words request
   pub asked : file_of_request request ≡ Some name
-  pub files : HasFaultAt run.files name
-  pub idle : IsIdle run
-  pub err : Tells run.err (codes "read fault\n")
+  pub files : HasFaultAt r.files name
+  pub idle : IsIdle r
+  pub err : Sends r.err (codes "read fault\n")
 
 -- The output did not take the whole text of what the words ask for: it counted a fault.
-pub record WriteFault (run : Run) : Type 0 where
+pub record WriteFault (r : Run) : Type 0 where
   pub request : Request
   pub status : ℕ
   pub text : List ℕ
-  pub words : AsksFor run.words request
-  pub comes : Comes run.files run.stopper run.shares request status text
-  pub files : Unchanged run.files
-  pub out : BreaksOff run.out text
-  pub err : Tells run.err (codes "write fault\n")
+  pub words : AsksFor r.words request
+  pub comes : Comes r.files r.stopper r.shares request status text
+  pub files : Unchanged r.files
+  pub out : BreaksOff r.out text
+  pub err : Sends r.err (codes "write fault\n")
 
 -- Memory was refused. Nothing says when this comes, but that the words ask for something and that nothing is printed.
-pub record WantOfMemory (run : Run) : Type 0 where
+pub record WantOfMemory (r : Run) : Type 0 where
   pub request : Request
-  pub words : AsksFor run.words request
-  pub files : Unchanged run.files
-  pub stopper : MayHaveStopped request run.stopper
-  pub out : Unchanged run.out
-  pub shares : run.shares ≡ []
-  pub err : Tells run.err (codes "want of memory\n")
+  pub words : AsksFor r.words request
+  pub files : Unchanged r.files
+  pub stopper : MayHaveStopped request r.stopper
+  pub out : Unchanged r.out
+  pub shares : r.shares ≡ []
+  pub err : Sends r.err (codes "want of memory\n")
 
 -- A run ends in one of these ways, and its status says in which.
-pub data Ends (run : Run) (status : ℕ) : Type 0 where
-  printed : Printed run status → Ends run status
-  words_refused : status ≡ 2 → WordsRefused run → Ends run status
-  problem_refused : status ≡ 3 → ProblemRefused run → Ends run status
-  read_fault : status ≡ 6 → ReadFault run → Ends run status
-  write_fault : status ≡ 7 → WriteFault run → Ends run status
-  checkpoint_refused : status ≡ 8 → CheckpointRefused run → Ends run status
-  want_of_memory : status ≡ 9 → WantOfMemory run → Ends run status
+pub data Ends (r : Run) (status : ℕ) : Type 0 where
+  printed : Printed r status → Ends r status
+  words_refused : status ≡ 2 → WordsRefused r → Ends r status
+  problem_refused : status ≡ 3 → ProblemRefused r → Ends r status
+  read_fault : status ≡ 6 → ReadFault r → Ends r status
+  write_fault : status ≡ 7 → WriteFault r → Ends r status
+  checkpoint_refused : status ≡ 8 → CheckpointRefused r → Ends r status
+  want_of_memory : status ≡ 9 → WantOfMemory r → Ends r status

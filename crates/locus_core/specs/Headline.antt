@@ -78,14 +78,14 @@ IsStatusOf b n = ((n ≡ 4) × HasBadNumber b.sum.problem b.sum.next (end_of b))
 abbrev pub KnowsItsFile : Run → Request → Type 0
 KnowsItsFile r request = IsSome r.files.before.content ⊎ (file_of_request request ≡ None)
 
--- Of a sum that is begun anew, or with true residues: if its whole text is printed, some decorated tree is bad exactly if
--- the status is 4.
+-- Of a sum that is begun anew, or with true residues: if it is done or has no inverse (status 0, 1 or 4), some decorated
+-- tree is bad exactly if the status is 4.
 abbrev pub NamesBadTrees : Run → ℕ → Type 0
 NamesBadTrees r n = IsDoneStatus n ⊎ (n ≡ 4) → (request : Request) (b : Beginning) → AsksFor r.words request
     → KnowsItsFile r request → Begins r.files request b → IsTrueBeginning b → ((n ≡ 4) ↔ HasBadTree b.sum.problem)
 
--- A sum that is begun, if neither the files nor the output count a fault and nobody asks for a stop, has its status, but
--- for want of memory.
+-- A sum that is begun, if neither the files nor the output count a fault and nobody asks for a stop, has the status that
+-- its numbers within the budget give it, but for want of memory.
 abbrev pub IsDecided : Run → ℕ → Type 0
 IsDecided r n = ¬ Rose r.files.before.faults r.files.after.faults → ¬ Rose r.out.before.faults r.out.after.faults
     → ¬ Rose r.stopper.before.stops r.stopper.after.stops
@@ -123,8 +123,8 @@ pub record HasBegun (r : Run) (b : Beginning) : Type 0 where
   pub words : AsksFor r.words request
   pub begins : Begins r.files request b
 
--- The sums over all numbers from the first on were printed, for each integral its residues and the only fraction within
--- the bounds that agrees with them, or that there is none. If no tree was summed before, or the residues so far were true,
+-- The residues that the sum began with, plus those of all numbers from its first on, were printed, and for each integral
+-- the only fraction within the bounds that agrees with them, or that there is none. If no tree was summed before, or the residues so far were true,
 -- no decorated tree is bad, the residues are those of Kontsevich's sums over all decorated trees, and a fraction within
 -- the bounds is the sum.
 pub record PrintsSums (r : Run) (n : ℕ) : Type 0 where

@@ -75,5 +75,5 @@ pub record BreaksOff (sink : Change SinkState) (text : List ℕ) : Type 0 where
   pub prefix : AppendsFront sink.before.written sink.after.written text
 
 -- the line was written, as far as the sink took it
-abbrev pub Tells : Change SinkState → List ℕ → Type 0
-Tells sink line = TakesText sink line ⊎ BreaksOff sink line
+abbrev pub Sends : Change SinkState → List ℕ → Type 0
+Sends sink line = TakesText sink line ⊎ BreaksOff sink line

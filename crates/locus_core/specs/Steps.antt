@@ -15,9 +15,9 @@ use Rattle.report.specs.Texts.{no_inverse_text}
 use Rattle.report.specs.Statuses.{code_of}
 use Rattle.locus_core.specs.Words.{AsksFor, AskNothing}
 use Rattle.locus_core.specs.Texts.{refused_line, refused_checkpoint_line}
-use Rattle.locus_core.specs.Outside.{Change, Unchanged, FilesState, StopperState, SinkState, Holds, HasFaultAt, TakesText, BreaksOff, Tells}
+use Rattle.locus_core.specs.Outside.{Change, Unchanged, FilesState, StopperState, SinkState, Holds, HasFaultAt, TakesText, BreaksOff, Sends}
 use Rattle.locus_core.specs.Begins.{Beginning}
-use Rattle.locus_core.specs.Comes.{Sums, IsAnswer, Comes, file_of_request, MayHaveStopped}
+use Rattle.locus_core.specs.Comes.{RunsRounds, IsAnswer, Comes, file_of_request, MayHaveStopped}
 use Rattle.locus_core.specs.declared.work.Printable.{Printable}
 use Rattle.lists.specs.declared.memory.NoMemory.{NoMemory}
 use Rattle.locus_core.specs.declared.work.Refusal.{Refusal}
@@ -34,7 +34,7 @@ Loads most files name bytes = IfSome files.before.content (λ told. option_map (
 -- what rounds from a beginning on come to
 pub record Continues (b : Beginning) (stopper : Change StopperState) (shares : List ℕ) (status : ℕ) (text : List ℕ) : Type 0 where
   pub outcome : Outcome
-  pub sums : Sums b stopper shares outcome
+  pub sums : RunsRounds b stopper shares outcome
   pub answer : IsAnswer b outcome status text
 
 -- the outcome is no pause
@@ -72,23 +72,23 @@ IsWork request files stopper (Err r) = WhyNot request files stopper r
 -- the text was written whole and its status is the answer, or status 7 tells that it was not
 pub data Prints (out err : Change SinkState) (status : ℕ) (text : List ℕ) (answer : ℕ) : Type 0 where
   whole : answer ≡ status → TakesText out text → Unchanged err → Prints out err status text answer
-  broken : answer ≡ 7 → BreaksOff out text → Tells err (codes "write fault\n") → Prints out err status text answer
+  broken : answer ≡ 7 → BreaksOff out text → Sends err (codes "write fault\n") → Prints out err status text answer
 
 -- a refusal is told with its status, or want of memory with status 9
 pub data Refuses (err : Change SinkState) (answer : ℕ) : Refusal → Type 0 where
-  read_fault : answer ≡ 6 → Tells err (codes "read fault\n") → Refuses err answer refusal.ReadFault
-  problem : (error : ProblemError) → answer ≡ 3 → Tells err (refused_line error) → Refuses err answer (refusal.Problem error)
-  checkpoint : (error : CheckpointError) → answer ≡ 8 → Tells err (refused_checkpoint_line error)
+  read_fault : answer ≡ 6 → Sends err (codes "read fault\n") → Refuses err answer refusal.ReadFault
+  problem : (error : ProblemError) → answer ≡ 3 → Sends err (refused_line error) → Refuses err answer (refusal.Problem error)
+  checkpoint : (error : CheckpointError) → answer ≡ 8 → Sends err (refused_checkpoint_line error)
       → Refuses err answer (refusal.Checkpoint error)
-  no_memory : answer ≡ 9 → Tells err (codes "want of memory\n") → Refuses err answer refusal.NoMemory
-  unheard_problem : (error : ProblemError) → answer ≡ 9 → Tells err (codes "want of memory\n")
+  no_memory : answer ≡ 9 → Sends err (codes "want of memory\n") → Refuses err answer refusal.NoMemory
+  unheard_problem : (error : ProblemError) → answer ≡ 9 → Sends err (codes "want of memory\n")
       → Refuses err answer (refusal.Problem error)
-  unheard_checkpoint : (error : CheckpointError) → answer ≡ 9 → Tells err (codes "want of memory\n")
+  unheard_checkpoint : (error : CheckpointError) → answer ≡ 9 → Sends err (codes "want of memory\n")
       → Refuses err answer (refusal.Checkpoint error)
 
 -- a text is told with status 2 of words that ask for nothing, or want of memory with status 9
 pub data RefusesWords (words : List (List ℕ)) (err : Change SinkState) (answer : ℕ) : Type 0 where
   nothing_asked : (text : List ℕ) → answer ≡ 2 → AskNothing words → (AreRefusedFirst words → text ≡ codes "words refused\n")
-      → Tells err text → RefusesWords words err answer
-  unread : (request : Request) → answer ≡ 9 → AsksFor words request → Tells err (codes "want of memory\n")
+      → Sends err text → RefusesWords words err answer
+  unread : (request : Request) → answer ≡ 9 → AsksFor words request → Sends err (codes "want of memory\n")
       → RefusesWords words err answer

@@ -3,7 +3,7 @@
 ghost use Rattle.std.specs.Prelude.{◌≡◌, [], codes, IfOk, IsErr};
 ghost use Rattle.report.specs.Statuses.{code_of};
 ghost use Rattle.locus_core.specs.Texts.{refused_line, refused_checkpoint_line};
-ghost use Rattle.locus_core.specs.Outside.{sink_change, Tells};
+ghost use Rattle.locus_core.specs.Outside.{sink_change, Sends};
 ghost use Rattle.locus_core.specs.Steps.{Prints, Refuses};
 
 use crate::top::Answer;
@@ -61,9 +61,9 @@ pub(crate) fn refuse<E: Sink>(alloc: Global, err: &mut E, refusal: Refusal) -> A
 /// Ends a run with a line on standard error, or with want of memory if there is no line.
 fn end_with<E: Sink>(err: &mut E, status: Status, line: Result<Vec<u8>, NoMemory>) -> Answer
     ensures line { IfOk line (λ line. (result.status ≡ code_of status)
-        × Tells (sink_change E.written E.is_flushed E.faults err.old err.new) line.items) }
+        × Sends (sink_change E.written E.is_flushed E.faults err.old err.new) line.items) }
     ensures no_line { IsErr line → (result.status ≡ 9)
-        × Tells (sink_change E.written E.is_flushed E.faults err.old err.new) (codes "want of memory\n") }
+        × Sends (sink_change E.written E.is_flushed E.faults err.old err.new) (codes "want of memory\n") }
     ensures shares { result.shares ≡ [] }
 {
     match line {
@@ -75,7 +75,7 @@ fn end_with<E: Sink>(err: &mut E, status: Status, line: Result<Vec<u8>, NoMemory
 /// Ends a run with a line on standard error. A fault there changes nothing.
 pub(crate) fn end<E: Sink>(err: &mut E, status: Status, line: &[u8]) -> Answer
     ensures status { result.status ≡ code_of status }
-    ensures line { Tells (sink_change E.written E.is_flushed E.faults err.old err.new) line.now }
+    ensures line { Sends (sink_change E.written E.is_flushed E.faults err.old err.new) line.now }
     ensures shares { result.shares ≡ [] }
 {
     tell(err, line);
@@ -87,7 +87,7 @@ pub(crate) fn end<E: Sink>(err: &mut E, status: Status, line: &[u8]) -> Answer
 
 /// Writes a line to standard error, as far as it takes it.
 fn tell<E: Sink>(err: &mut E, line: &[u8])
-    ensures { Tells (sink_change E.written E.is_flushed E.faults err.old err.new) line.now }
+    ensures { Sends (sink_change E.written E.is_flushed E.faults err.old err.new) line.now }
 {
     let _ = put_all(err, line);
 }

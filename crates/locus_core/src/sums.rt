@@ -8,7 +8,7 @@ ghost use Rattle.problem.specs.Problems.{view as problem_view};
 ghost use Rattle.report.specs.Statuses.{code_of};
 ghost use Rattle.rounds.specs.Outcomes.{IsOfProblem};
 ghost use Rattle.locus_core.specs.Outside.{Unchanged, stopper_change};
-ghost use Rattle.locus_core.specs.Begins.{of_state, of_number, plan_of, Plan};
+ghost use Rattle.locus_core.specs.Begins.{of_state, of_number, plan_of, SumPlan};
 ghost use Rattle.locus_core.specs.Comes.{IsAnswer, MayHaveStopped};
 ghost use Rattle.locus_core.specs.Steps.{Continues, IsNoPause, IsReportOf};
 
@@ -66,7 +66,7 @@ pub(crate) fn go_on<R: Threads + Sync, S: Stopper, G: Gate>(
 /// What is printed of an outcome: sums with their fractions, the least bad tree, or a checkpoint.
 fn report_of(alloc: Global, state: State, outcome: Outcome) -> Result<Report, NoMemory>
     requires { IsOfProblem state.problem outcome }
-    ensures { IfOk result (λ report. (plan : Plan) → IsAnswer (of_state state plan) outcome (code_of report.status) report.text.items) }
+    ensures { IfOk result (λ report. (plan : SumPlan) → IsAnswer (of_state state plan) outcome (code_of report.status) report.text.items) }
 {
     match outcome {
         Outcome::Done { residues } => done(alloc, state.problem(), residues.as_slice()),

@@ -1,7 +1,7 @@
 //! The top call.
 
 ghost use Rattle.std.specs.Prelude.{◌≡◌, ◌↔◌, codes, map, string_bytes, []};
-ghost use Rattle.locus_core.specs.Outside.{files_change, sink_change, stopper_change, Tells};
+ghost use Rattle.locus_core.specs.Outside.{files_change, sink_change, stopper_change, Sends};
 ghost use Rattle.locus_core.specs.Words.{AskNothing};
 ghost use Rattle.locus_core.specs.Ends.{run_of, Ends};
 ghost use Rattle.locus_core.specs.Headline.{IsStatus, Accepts, NamesBadTrees, NeedsItsFile, IsDecided, HeedsStops, MakesProblem};
@@ -92,8 +92,8 @@ pub fn locus<R: Threads + Sync, F: Files, O: Sink, E: Sink, S: Stopper, G: Gate>
         (sink_change E.written E.is_flushed E.faults err.old err.new)
         (stopper_change S.stops S.last_stop stopper.old stopper.new) result.shares) result.status }
 
-    // Of a sum that is begun anew, or with true residues: if its text was printed whole, status 4 comes exactly if some
-    // decorated tree is bad.
+    // Of a sum that is begun anew, or with true residues: if it is done or has no inverse, and its text was printed whole,
+    // status 4 comes exactly if some decorated tree is bad.
     ensures bad { NamesBadTrees (run_of (map string_bytes words.now)
         (files_change F.content F.faults F.last_fault files.old files.new)
         (sink_change O.written O.is_flushed O.faults out.old out.new)
@@ -124,7 +124,9 @@ pub fn locus<R: Threads + Sync, F: Files, O: Sink, E: Sink, S: Stopper, G: Gate>
         (sink_change E.written E.is_flushed E.faults err.old err.new)
         (stopper_change S.stops S.last_stop stopper.old stopper.new) result.shares) result.status }
 
-    // At status 0 and 1, but for `make`, the residues of all trees and the only fractions that agree with them are printed.
+    // At status 0 and 1, but for `make`, what is printed is the residues that the sum began with plus those of all numbers
+    // from its first on, and the only fractions that agree with them. If it began anew or with true residues, they are
+    // Kontsevich's.
     ensures residues { PrintsItsSums (run_of (map string_bytes words.now)
         (files_change F.content F.faults F.last_fault files.old files.new)
         (sink_change O.written O.is_flushed O.faults out.old out.new)
@@ -181,9 +183,9 @@ pub fn locus<R: Threads + Sync, F: Files, O: Sink, E: Sink, S: Stopper, G: Gate>
 /// Ends a run whose words were not read: words that are no text are refused.
 pub fn refuse_words<E: Sink>(err: &mut E, error: WordsError) -> Answer
     ensures not_text { error ≡ WordsError.NotText → (result.status ≡ 2)
-        × Tells (sink_change E.written E.is_flushed E.faults err.old err.new) (codes "words refused\n") }
+        × Sends (sink_change E.written E.is_flushed E.faults err.old err.new) (codes "words refused\n") }
     ensures no_memory { error ≡ WordsError.NoMemory → (result.status ≡ 9)
-        × Tells (sink_change E.written E.is_flushed E.faults err.old err.new) (codes "want of memory\n") }
+        × Sends (sink_change E.written E.is_flushed E.faults err.old err.new) (codes "want of memory\n") }
     ensures shares { result.shares ≡ [] }
 {
     match error {
