@@ -34,16 +34,17 @@ class Outside:
             sys.exit("outside.c was not compiled")
         self.mark = self.folder / "mark"
 
-    def run(self, words, faults=None, stdout=subprocess.PIPE, stderr=subprocess.PIPE):
-        """How a run ends under these faults."""
+    def run(self, words, faults=None, stdout=subprocess.PIPE, stderr=subprocess.PIPE, closing=""):
+        """How a run ends under these faults; `>&-` and `2>&-` close an output before it begins."""
         settings = {}
         if faults:
             settings = {name: str(value) for name, value in faults.items()}
             settings |= {"LD_PRELOAD": str(self.library), "OUTSIDE_MARK": str(self.mark)}
         self.mark.unlink(missing_ok=True)
         try:
-            ended = subprocess.run([self.program, *words], cwd=self.folder, env=os.environ | settings, stdout=stdout,
-                                   stderr=stderr, stdin=subprocess.DEVNULL, timeout=SECONDS)
+            call = ["sh", "-c", f'exec "$0" "$@" {closing}', self.program, *words] if closing else [self.program, *words]
+            ended = subprocess.run(call, cwd=self.folder, env=os.environ | settings, stdout=stdout, stderr=stderr,
+                                   stdin=subprocess.DEVNULL, timeout=SECONDS)
         except subprocess.TimeoutExpired:
             return Ended(None, b"", b"")
         return Ended(ended.returncode, ended.stdout or b"", ended.stderr or b"")
