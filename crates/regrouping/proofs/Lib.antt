@@ -15,6 +15,8 @@ pub mod Steps
 pub mod EdgeSymmetry
 pub mod TermValues
 pub mod Ops
+pub mod Dressed
+pub mod DressedTrees
 pub mod Worked
 pub mod PsiParts
 pub mod PsiVertices

@@ -29,7 +29,7 @@ products-swapped f (x ∷ xs) ys =
     ap (times (product_of_fractions (map (f x) ys))) (products-swapped f xs ys)
     ∙ sym (paired-products (f x) (λ y. product_of_fractions (map (λ x'. f x' y) xs)) ys)
 
-products-same : {A : Type 0} (f g : A → Fraction) (xs : List A) → ((x : A) → f x ≡ g x) → product_of_fractions (map f xs) ≡ product_of_fractions (map g xs)
+pub products-same : {A : Type 0} (f g : A → Fraction) (xs : List A) → ((x : A) → f x ≡ g x) → product_of_fractions (map f xs) ≡ product_of_fractions (map g xs)
 products-same f g [] h = refl
 products-same f g (x ∷ xs) h = ap₂ times (h x) (products-same f g xs h)
 
@@ -38,7 +38,7 @@ mapped g f [] = refl
 mapped g f (x ∷ xs) = ap (times (g (f x))) (mapped g f xs)
 
 -- ---- one class
-none_at_edges : (colours : List ℕ) (es : List (ℕ × ℕ)) (ds : List ℕ) → product_of_fractions (along_edges (λ i j a. fraction (pos 1) (pos 1)) colours es ds) ≡ fraction (pos 1) (pos 1)
+pub none_at_edges : (colours : List ℕ) (es : List (ℕ × ℕ)) (ds : List ℕ) → product_of_fractions (along_edges (λ i j a. fraction (pos 1) (pos 1)) colours es ds) ≡ fraction (pos 1) (pos 1)
 none_at_edges colours [] ds = refl
 none_at_edges colours (e ∷ es) [] = refl
 none_at_edges colours (e ∷ es) (a ∷ ds) = ap (times (fraction (pos 1) (pos 1))) (none_at_edges colours es ds)
@@ -62,13 +62,13 @@ times-power : (f g : Fraction) (n : ℕ) → power_of_fraction (times f g) n ≡
 times-power f g n = ap₂ fraction (power-times f.top g.top n) (power-times f.bottom g.bottom n)
 
 -- ---- all classes: three products, each over the classes and their edges, steps and whole
-classes_times : (ps : List Power) (f g : Class → Fraction) → over_classes ps (λ c. times (f c) (g c)) ≡ times (over_classes ps f) (over_classes ps g)
+pub classes_times : (ps : List Power) (f g : Class → Fraction) → over_classes ps (λ c. times (f c) (g c)) ≡ times (over_classes ps f) (over_classes ps g)
 classes_times ps f g =
     products-same (λ (p : Power). power_of_fraction (times (f p.class) (g p.class)) p.power)
     (λ (p : Power). times (power_of_fraction (f p.class) p.power) (power_of_fraction (g p.class) p.power)) ps (λ p. times-power (f p.class) (g p.class) p.power)
     ∙ paired-products (λ (p : Power). power_of_fraction (f p.class) p.power) (λ (p : Power). power_of_fraction (g p.class) p.power) ps
 
-classes_list : {A : Type 0} (ps : List Power) (f : Class → A → Fraction) (xs : List A)
+pub classes_list : {A : Type 0} (ps : List Power) (f : Class → A → Fraction) (xs : List A)
     → over_classes ps (λ c. product_of_fractions (map (f c) xs)) ≡ product_of_fractions (map (λ x. over_classes ps (λ c. f c x)) xs)
 classes_list ps f xs =
     products-same (λ (p : Power). power_of_fraction (product_of_fractions (map (f p.class) xs)) p.power)
@@ -76,7 +76,7 @@ classes_list ps f xs =
     (λ p. power-product (map (f p.class) xs) p.power ∙ mapped (λ h. power_of_fraction h p.power) (f p.class) xs)
     ∙ products-swapped (λ (p : Power) x. power_of_fraction (f p.class x) p.power) ps xs
 
-classes_edges : (ws : List ℤ) (term : Term) (g : DecoratedTree)
+pub classes_edges : (ws : List ℤ) (term : Term) (g : DecoratedTree)
     → over_classes term.classes (λ c. product_of_fractions (at_edges (class_edge ws c) g)) ≡ product_of_fractions (at_edges (term_edge ws term) g)
 classes_edges ws term g =
     let xs = with_degrees g.edges g.degrees in

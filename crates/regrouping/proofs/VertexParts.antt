@@ -122,7 +122,7 @@ many-are ws c e f g es t =
     (ap₂ times (ap product_of_fractions (shares-are ws c (suc (length es)) (e ∷ f ∷ g ∷ es)) ∙ flags-are ws c (e ∷ f ∷ g ∷ es))
     (ap (λ h. times (power_of_fraction h (length (e ∷ f ∷ g ∷ es) - 3)) (power_of_fraction h t)) (flag_sum-is ws c (e ∷ f ∷ g ∷ es))))
 
-stable-is : (ws : List ℤ) (c : ℕ) (es : List End) (t n : ℕ) → length es + t ≡ n + 3 → stable_vertex ws c es t
+pub stable-is : (ws : List ℤ) (c : ℕ) (es : List End) (t n : ℕ) → length es + t ≡ n + 3 → stable_vertex ws c es t
     ≡ fraction (power (tangent_product ws c) (length es - 1) *ℤ product_of_degrees es *ℤ power (crossed_sum ws c es) n) (power (product_of_differences ws c es) (suc n))
 stable-is ws c es t n e =
     ap₂ (λ i j. fraction (power (tangent_product ws c) (length es - 1) *ℤ product_of_degrees es *ℤ power (crossed_sum ws c es) i) (power (product_of_differences ws c es) j))

@@ -6,3 +6,4 @@ pub mod TermParts
 pub mod TermEdges
 pub mod PsiParts
 pub mod Ops
+pub mod Dressed

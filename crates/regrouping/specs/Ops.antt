@@ -1,6 +1,6 @@
 -- What one term of a tree adds, as a product over a list of operations: one of each edge, in any order, one of each step of a walk but the
 -- first, one of each vertex, one of each mark, and what is left of the term.
-use Rattle.std.specs.Prelude.{ℕ, List, map, ℤ, pos}
+use Rattle.std.specs.Prelude.{ℕ, List, [], ◌∷◌, map, ℤ, pos}
 use Rattle.arithmetic.specs.Numbers.{factorial}
 use Rattle.arithmetic.specs.Fractions.{Fraction, fraction, times, product_of_fractions}
 use Rattle.trees.specs.Decorated.{DecoratedTree}
@@ -10,6 +10,12 @@ use Rattle.localisation.specs.EdgeFraction.{edge_fraction}
 use Rattle.regrouping.specs.Spread.{over, end_of}
 use Rattle.regrouping.specs.TreeParts.{share_at, step_part, hub_part, mark_part}
 use Rattle.regrouping.specs.TermEdges.{term_edge, term_step, term_whole}
+
+-- edges with their degrees
+abbrev pub with_degrees : List (ℕ × ℕ) → List ℕ → List ((ℕ × ℕ) × ℕ)
+with_degrees [] ds = []
+with_degrees (e ∷ es) [] = []
+with_degrees (e ∷ es) (a ∷ ds) = (e, a) ∷ with_degrees es ds
 
 -- an edge x.0 with its degree x.1: what it gives at both ends ..
 abbrev pub both_at : (ℕ → End → Fraction) → List ℕ → (ℕ × ℕ) × ℕ → Fraction
