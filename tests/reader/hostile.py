@@ -256,7 +256,7 @@ def changed_parts(chance, version, source, number, rows):
         elif way == 1:
             number = chance.choice((number + 1, 10**6, 2**40, 2**64 - 1, 2**64))
         elif way == 2:
-            rows = rows + [rows[0]] if chance.random() < 0.5 else rows[1:]
+            rows = rows + rows[:1] if chance.random() < 0.5 else rows[1:]
         elif way == 3 and rows:
             rows = [row + [0] if chance.random() < 0.5 else row[:-1] for row in rows]
         elif way == 4 and rows:

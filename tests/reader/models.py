@@ -1,5 +1,6 @@
 """Makes problems by chance, and breaks rules of their format."""
 
+import copy
 import math
 
 from . import problem as problems, trees
@@ -147,13 +148,18 @@ def leave_out(chance, table):
 def add_a_key(chance, table):
     """Adds a key that may be unknown."""
     within = chance.choice([table] + tables(table))
-    within.setdefault(chance.choice(NAMES), chance.choice((1, *OTHER_TYPES)))
+    within.setdefault(chance.choice(NAMES), another_value(chance, (1, *OTHER_TYPES)))
+
+
+def another_value(chance, values):
+    """One of these values, as a copy, so that nothing that is done to it later changes the values or puts it into itself."""
+    return copy.deepcopy(chance.choice(values))
 
 
 def change_a_type(chance, table):
     """Gives a key or an element another type."""
     within, key = chance.choice([(table, key) for key in table] + places(table))
-    within[key] = chance.choice(OTHER_TYPES)
+    within[key] = another_value(chance, OTHER_TYPES)
 
 
 def go_to_an_edge(chance, table):
