@@ -15,7 +15,7 @@ LARGEST_BOUND = 2**62 - 1
 """The largest numerator or denominator bound that a problem may have."""
 
 MODULI_BELOW = 2**62
-PRODUCT_BELOW = 2**126
+"""Each modulus of a problem is below it."""
 
 SLACK = 10**6
 """How far above 2AB the product of chosen moduli is for bounds that are given. A sum outside the bounds `A` and `B`
@@ -32,7 +32,8 @@ _WITNESSES = (2, 3, 5, 7, 11, 13, 17, 19, 23, 29, 31, 37)
 
 
 def is_prime(number: int) -> bool:
-    """Whether a number below 3 * 10^23 is a prime (Miller and Rabin, with the first twelve primes as witnesses)."""
+    """Whether a whole number below 3 * 10^23 is a prime (Miller and Rabin, with the first twelve primes as witnesses).
+    Of a larger number that is no prime it may say so too."""
     if number < 2 or any(number % prime == 0 for prime in _WITNESSES):
         return number in _WITNESSES
     twos = ((number - 1) & (1 - number)).bit_length() - 1
@@ -45,7 +46,7 @@ def is_prime(number: int) -> bool:
 
 
 def primes() -> Iterator[int]:
-    """The primes below 2^62, the largest first."""
+    """The primes below 2^62, the largest first, without an end that is of use."""
     number = MODULI_BELOW - 1
     while True:
         if is_prime(number):
@@ -55,7 +56,7 @@ def primes() -> Iterator[int]:
 
 def are_generic(weights: Sequence[int], degree: int) -> bool:
     """Whether no denominator of a tree of this degree is 0: no weight is 0, all differ, and none is a mean of two
-    others with whole shares `t` and `a - t` for an `a` up to the degree."""
+    others with whole shares `t` and `a - t` for an `a` up to the degree. The weights are any whole numbers."""
     if 0 in weights or len(set(weights)) < len(weights):
         return False
     means = {
@@ -70,7 +71,8 @@ def are_generic(weights: Sequence[int], degree: int) -> bool:
 
 
 def weights_for(rank: int, degree: int, attempt: int = 0) -> List[int]:
-    """Weights for a problem: at first powers of 10, 7 or 5, and at each further attempt others that are made by chance,
+    """Weights for a problem of a rank from 1 to 12 and a degree from 1 to 10: at first powers of 10, 7 or 5, if one of
+    these lists is generic and ends by 10^9, and otherwise, and at each further attempt, others that are made by chance,
     the same in each session."""
     for base in (10, 7, 5) if attempt == 0 else ():
         weights = [base**exponent for exponent in range(rank + 1)]
@@ -84,7 +86,8 @@ def weights_for(rank: int, degree: int, attempt: int = 0) -> List[int]:
 
 
 def bounds_for(moduli: Sequence[int]) -> Tuple[int, int]:
-    """Bounds with a product so far below that of the moduli as `SLACK` says."""
+    """Bounds of numerators and denominators with a product so far below that of the moduli as `SLACK` says. ValueError
+    if the moduli are too small for any."""
     product = 1
     for modulus in moduli:
         product *= modulus
@@ -97,7 +100,8 @@ def bounds_for(moduli: Sequence[int]) -> Tuple[int, int]:
 
 
 def moduli_for(numerator_bound: int, denominator_bound: int) -> List[int]:
-    """As few primes as bounds need, with a product far above twice that of the bounds, as `SLACK` says."""
+    """One or two primes just below 2^62, as few as bounds need, with a product far above twice that of the bounds, as
+    `SLACK` says. ValueError if two are too few."""
     first, second = (prime for prime, _ in zip(primes(), range(2)))
     needed = 2 * numerator_bound * denominator_bound * SLACK
     if needed >= first * second:
@@ -106,7 +110,8 @@ def moduli_for(numerator_bound: int, denominator_bound: int) -> List[int]:
 
 
 def tree_count(rank: int, degree: int, marks: int = 0) -> int:
-    """How many decorated trees a problem has.
+    """How many decorated trees a problem has, for `rank` and `degree` from 1 on and `marks` from 0 on. The program sums
+    at most 2^40.
 
     >>> tree_count(4, 4)
     176100
@@ -117,5 +122,5 @@ def tree_count(rank: int, degree: int, marks: int = 0) -> int:
 
 
 def dimension(rank: int, degree: int, marks: int = 0) -> int:
-    """The dimension of the space of stable maps, which each term has to have as its degree."""
+    """The dimension of the space of stable maps, `(r + 1) d + r - 3 + m`, which each term has to have as its degree."""
     return (rank + 1) * degree + rank - 3 + marks

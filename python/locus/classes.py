@@ -7,6 +7,9 @@ added, subtracted, multiplied, raised to powers and multiplied by numbers, and a
     -3*incidence(2) + 2*incidence(2)*mark(1)
     >>> jet(mark=1, b=3, order=2)
     3*mark(1)*psi(1) + 9*mark(1)^2
+
+A parameter is a whole number, also one of Sage or NumPy: anything else is a TypeError, and one out of its limits a
+ValueError. In the degrees of the classes, `d` is the degree of the curves.
 """
 
 from __future__ import annotations
@@ -46,7 +49,12 @@ Monomial = Tuple[Tuple[Atom, int], ...]
 
 
 class Classes:
-    """A sum of products of classes with rational coefficients. It is not changed once it is made."""
+    """A sum of products of classes with rational coefficients. It is not changed once it is made.
+
+    Sums, differences and products are with classes or numbers, quotients with numbers other than 0, and powers are from
+    0 on; anything else is a TypeError, a division by 0 a ZeroDivisionError, and a power below 0 a ValueError. Classes
+    are equal if their terms are, once they are multiplied out.
+    """
 
     __slots__ = ("_terms",)
 
@@ -57,7 +65,8 @@ class Classes:
 
     @classmethod
     def of(cls, value: Union["Classes", Number, str]) -> "Classes":
-        """A number, a text such as `incidence(2)^5` or `2*mark(1) - psi(1)`, or classes, as classes."""
+        """A number, a text such as `incidence(2)^5` or `2*mark(1) - psi(1)`, or classes, as classes. TypeError if it is
+        none of these, and ValueError if a text means no classes."""
         if isinstance(value, Classes):
             return value
         if isinstance(value, str):
@@ -188,7 +197,8 @@ def _product(some: Monomial, others: Monomial) -> Monomial:
 
 
 def whole(name: str, value: SupportsIndex, least: int, most: int) -> int:
-    """A whole number within limits, also one of Sage or NumPy; a TypeError or a ValueError otherwise."""
+    """A whole number from `least` to `most`, also one of Sage or NumPy. TypeError if it is none, and ValueError if it
+    is out of these limits; both name it by `name`."""
     if isinstance(value, bool) or not hasattr(value, "__index__"):
         raise TypeError(f"{name} is a whole number, and not {value!r}")
     number = operator.index(value)
@@ -202,7 +212,7 @@ def _single(kind: str, name: str, value: SupportsIndex, least: int, most: int) -
 
 
 def hypersurface(b: int) -> Classes:
-    """The curve lies on a hypersurface of degree `b` (1 to 64): degree `b d + 1`."""
+    """The curve lies on a general hypersurface of degree `b` (1 to 64): degree `b d + 1`."""
     return _single("hypersurface", "b", b, 1, 64)
 
 
@@ -212,7 +222,7 @@ def incidence(q: int) -> Classes:
 
 
 def mark(j: int) -> Classes:
-    """Mark `j` (1 to 12) lies on a hyperplane; the power `r` puts it at a point: degree 1."""
+    """Mark `j` (1 to 12) lies on a hyperplane: degree 1. The power `q` puts it on a linear space of codimension `q`."""
     return _single("mark", "mark", j, 1, 12)
 
 
@@ -235,7 +245,11 @@ def jet(mark: int, b: int, order: int) -> Classes:
     """The curve has contact of order at least `order` with a hypersurface of degree `b` at mark `mark`.
 
     It is the product of `b H + i psi` for `i` from 0 to `order - 1`, where `H` is `mark(mark)`: order 1 says that the
-    mark lies on the hypersurface, order 2 that the curve touches it there. Its degree is `order`.
+    mark lies on the hypersurface, order 2 that the curve touches it there. Its degree is `order`. It counts contact
+    alone up to order 2, and for lines up to order `b`; beyond, it also counts curves that break at a point of the
+    hypersurface, and lines that lie in it (Gathmann 2002).
+
+    `mark` is from 1 to 12, `b` and `order` are from 1 on; a TypeError or a ValueError otherwise.
     """
     at_mark, cotangent = _single("mark", "mark", mark, 1, 12), psi(mark)
     degree = whole("jet: b", b, 1, 10**9)

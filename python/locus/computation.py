@@ -14,7 +14,7 @@ from operator import index
 from typing import Any, Dict, Iterator, List, Optional, Sequence, SupportsIndex, Tuple, Union
 
 from . import choices
-from .classes import Classes, Number, degree_of, monomial_text
+from .classes import Classes, Number, degree_of, monomial_text, whole
 from .errors import Disagreement, NoFraction, NoInverse
 from .fractions_of import Residue, residue, small_fraction
 from .problem import Piece, Space, groups, pieces, problem_text
@@ -28,6 +28,7 @@ MOST_ATTEMPTS = 8
 """So many lists of weights are tried at most."""
 
 Integrand = Union[Classes, Number, str]
+"""What is integrated: classes, a text that means classes, or a number, which is a class of degree 0."""
 
 
 @dataclass(frozen=True)
@@ -42,9 +43,10 @@ class Run:
 class Result:
     """The integrals of a computation.
 
-    `values` has a fraction for each integrand, and `printed` says of each whether it is a line that the program printed
-    (so that the program's contract speaks of it) or was put together here from several runs or terms. `trees` is the
-    number of decorated trees, and `runs` has every run, with the problem text that can be given to the program by hand.
+    `values` has a fraction for each integrand, in their order. `printed` says of each whether it is a line that the
+    program printed (so that the program's contract speaks of it) or was put together here from several runs or terms.
+    `trees` is the number of decorated trees, and `runs` has every run, with the problem text that can be given to the
+    program by hand.
     """
 
     values: Tuple[Fraction, ...]
@@ -104,21 +106,30 @@ def compute(
 ) -> Result:
     """Integrates each of the classes over the space of stable maps of a degree to projective space of dimension `rank`.
 
-    `marks` is the number of marked points; if it is left out, the greatest mark that the classes name. `weights` are
-    chosen if none are given, and others are taken if a tree has no inverse. `bounds` are those of numerators and
-    denominators: if they are given, one run has to do, with as few moduli as they need and some slack. If neither they
-    nor `moduli` are given, each run has two primes just below 2^62, and runs are joined until the fraction is certain:
-    a wrong one passes with a chance of about 10^-10. With `check` each number is compared with one further run, with
-    other weights and another modulus.
+    `rank` is from 1 to 12, `degree` from 1 to 10, and `marks`, the number of marked points, from 0 to 12; if it is left
+    out, it is the greatest mark that the classes name. `weights`, `rank` + 1 whole numbers within 10^9, are chosen if
+    none are given, and others are taken if a tree has no inverse. `bounds` are one of numerators and one of
+    denominators, each from 1 to 2^62 - 1. If they are given, one run has to do, with as few moduli as they need and
+    some slack. `moduli` are 1 to 8 odd numbers from 3 to 2^62 - 1 without common divisors, with a product below 2^126.
+    If they are given, one run has to do too. If neither are given, each run has two primes just below 2^62, and runs
+    are joined until the fraction is certain: a wrong one passes with a chance of about 10^-10. With `check` each number
+    is compared with one further run, with other weights and another modulus.
+
+    Before a run: a TypeError if a number is no whole number, and a ValueError if `rank`, `degree`, `marks` or
+    `bounds` is out of its limits, the degree of a term is not the dimension, a product has more than 16 classes, the
+    bounds are too wide for two moduli, or the moduli are too small for any bounds. Of the runs: Refused if the program
+    refuses the problem, NoInverse for weights that were given, NoFraction if no fraction within the bounds has the
+    residues or none was certain, Disagreement if `check` fails; and ProgramNotFound, ProgramFailed, CheckpointMismatch.
     """
     integrands = _integrands(classes)
+    limits = _within_limits(bounds)
     if marks is None:
         marks = max((integrand.highest_mark() for integrand in integrands), default=0)
     space = Space(rank, degree, marks)
     _compare_degrees(space, integrands)
     sums = _Sums(space, _plain(weights), runner)
     some = pieces(integrands)
-    found = _found(sums, some, _plain(moduli), _plain(bounds))
+    found = _found(sums, some, _plain(moduli), limits)
     if check:
         _check(_Sums(space, None, runner, attempt=MOST_ATTEMPTS), sums, some, found)
     values = [Fraction(0)] * len(integrands)
@@ -136,6 +147,19 @@ def _integrands(classes: Sequence[Integrand]) -> List[Classes]:
 def _plain(some: Optional[Sequence[SupportsIndex]]) -> Any:
     """Whole numbers as those of Python, in a tuple."""
     return None if some is None else tuple(index(number) for number in some)
+
+
+def _within_limits(bounds: Optional[Tuple[SupportsIndex, SupportsIndex]]) -> Optional[Tuple[int, int]]:
+    """Bounds of numerators and denominators, each from 1 to 2^62 - 1; a ValueError otherwise."""
+    if bounds is None:
+        return None
+    if len(bounds) != 2:
+        raise ValueError(f"bounds are one of numerators and one of denominators, and not {bounds!r}")
+    numerator, denominator = bounds
+    return (
+        whole("the numerator bound", numerator, 1, choices.LARGEST_BOUND),
+        whole("the denominator bound", denominator, 1, choices.LARGEST_BOUND),
+    )
 
 
 def _compare_degrees(space: Space, integrands: Sequence[Classes]) -> None:
@@ -226,7 +250,7 @@ def gw(
     check: bool = False,
     runner: Runner = Runner(),
 ) -> Fraction:
-    """One Gromov–Witten number, with the arguments of `compute`.
+    """One Gromov–Witten number, with the arguments and the errors of `compute`.
 
     >>> gw(rank=4, degree=2, classes="hypersurface(5)")
     Fraction(4876875, 8)

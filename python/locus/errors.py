@@ -8,7 +8,7 @@ class LocusError(Exception):
 
 
 class ProgramNotFound(LocusError):
-    """The program `locus` is not where it was looked for."""
+    """The program `locus` is not where it was looked for, or could not be started."""
 
 
 class Refused(LocusError):
@@ -39,7 +39,8 @@ class NoInverse(LocusError):
 
 
 class NoFraction(LocusError):
-    """No fraction within the bounds has the residues (status 1): give larger bounds, and moduli to match."""
+    """No fraction within the bounds that were given has the residues (status 1): give larger ones, and moduli to match.
+    Or no bounds were given, and no fraction was certain after as many runs as are made at most."""
 
 
 class Disagreement(LocusError):
@@ -47,7 +48,7 @@ class Disagreement(LocusError):
 
 
 class CheckpointMismatch(LocusError):
-    """The checkpoint on disk belongs to another problem."""
+    """The checkpoint on disk belongs to another problem, or the file is no checkpoint."""
 
 
 class ProgramFailed(LocusError):

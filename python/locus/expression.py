@@ -10,10 +10,12 @@ from . import classes
 from .classes import Classes
 
 Value = Union[Classes, Fraction]
+"""What a part of a text means."""
 
 MAKERS: Dict[str, Callable[..., Classes]] = {
     name: getattr(classes, name) for name in ("hypersurface", "incidence", "mark", "r1", "contact", "psi", "jet")
 }
+"""The calls that a text may name."""
 
 
 def parse(text: str) -> Classes:

@@ -11,7 +11,7 @@ Residue = Tuple[int, int]
 
 
 def residue(value: Fraction, modulus: int) -> int:
-    """The residue of a fraction whose denominator is a unit modulo the modulus."""
+    """The residue of a fraction whose denominator is a unit modulo the modulus. ValueError if it is none."""
     return value.numerator * pow(value.denominator, -1, modulus) % modulus
 
 

@@ -10,10 +10,19 @@ from typing import Iterable, List, Sequence, Tuple
 from .classes import Classes, Monomial, monomial_text, whole
 
 MOST_INTEGRALS = 8
+"""The greatest number of integrals of a problem."""
+
 MOST_TERMS = 32
+"""The greatest number of terms of a problem, in all its integrals."""
+
 MOST_CLASSES = 16
+"""The greatest number of classes of a term, each to a power."""
+
 MOST_POWER = 64
+"""The greatest power of a class. A higher one is written as several classes."""
+
 LARGEST_COEFFICIENT = 10**9
+"""The greatest size of a coefficient of a term."""
 
 
 @dataclass(frozen=True)
@@ -74,7 +83,8 @@ def groups(some: Iterable[Piece]) -> List[List[Piece]]:
 def problem_text(
     space: Space, weights: Sequence[int], moduli: Sequence[int], bounds: Tuple[int, int], integrals: Sequence[Piece]
 ) -> str:
-    """The text of a problem, in version 2."""
+    """The text of a problem, in version 2, of 1 to 8 integrals. ValueError if a term has more than 16 classes; other
+    limits are the program's to see."""
     lines = [
         "version = 2",
         f"rank = {space.rank}",

@@ -18,11 +18,13 @@ from .errors import NoInverse, ProgramFailed, ProgramNotFound, Refused
 from .fractions_of import Residue
 
 Path = Union[str, "os.PathLike[str]"]
+"""The name of a file."""
 
 BUILT = pathlib.Path(__file__).resolve().parent.parent.parent / "crates" / "locus_cli" / "out" / "locus_cli"
 """Where the repository's built program stands, if this package lies in the repository."""
 
 PAUSED = 5
+"""The program's status at a pause."""
 
 _ADVICE = {
     "MissingKey": "the key is not there, or is misspelt",
@@ -54,7 +56,7 @@ class Sum:
 
 @dataclass(frozen=True)
 class Ended:
-    """How one call ended: its status, and what came on the two outputs."""
+    """How one call ended: its status (below 0 if a signal ended it), and what came on the two outputs."""
 
     status: int
     out: bytes
@@ -80,7 +82,7 @@ def find(program: Optional[Path] = None) -> str:
 
 
 def call(program: str, words: Sequence[str]) -> Ended:
-    """Calls the program once and waits for its end."""
+    """Calls the program once and waits for its end. ProgramNotFound if it could not be started."""
     try:
         ended = subprocess.run([program, *words], stdin=subprocess.DEVNULL, capture_output=True, check=False)
     except OSError as error:
@@ -89,7 +91,8 @@ def call(program: str, words: Sequence[str]) -> Ended:
 
 
 def sum_of(ended: Ended) -> Sum:
-    """The sum that a call printed at status 0 or 1; at each other status the error that says what was wrong."""
+    """The sum that a call printed at status 0 or 1. Otherwise Refused at status 3, NoInverse at 4, and ProgramFailed at
+    each other status, or if what was printed is no whole text of a sum."""
     text = ended.out.decode(errors="replace")
     if ended.status in (0, 1):
         return _read_sum(text, ended)

@@ -2,6 +2,7 @@
 
 from __future__ import annotations
 
+import contextlib
 import sys
 import time
 from typing import Any, Callable, Optional, TextIO, Union
@@ -42,8 +43,8 @@ class _Tqdm(Silent):
 
 
 class Plain(Silent):
-    """A line on standard error that is written over: how many trees are summed, and how long the rest will take if it
-    goes on at the same pace."""
+    """A line on standard error, or on `out`, that is written over: how many trees are summed, and how long the rest
+    will take if it goes on at the same pace. If it cannot be written, the sum goes on without it."""
 
     WIDTH = 30
 
@@ -55,13 +56,18 @@ class Plain(Silent):
         self._length = 0
 
     def to(self, done: int) -> None:
+        """So many trees are summed."""
         now = time.monotonic()
         if self._begun is None:
             self._begun, self._first = now, done
         line = self._line(done, now - self._begun)
-        self._out.write("\r" + line.ljust(self._length))
-        self._out.flush()
+        self._show("\r" + line.ljust(self._length))
         self._length = len(line)
+
+    def _show(self, text: str) -> None:
+        with contextlib.suppress(OSError, ValueError):
+            self._out.write(text)
+            self._out.flush()
 
     def _line(self, done: int, seconds: float) -> str:
         if not self._total:
@@ -73,14 +79,14 @@ class Plain(Silent):
         return line
 
     def close(self) -> None:
+        """The sum has ended: the line is left as it is."""
         if self._length:
-            self._out.write("\n")
-            self._out.flush()
+            self._show("\n")
 
 
 def bar(progress: Progress, total: Optional[int]) -> Silent:
-    """The bar that is asked for, of a sum of so many trees."""
-    if progress is False:
+    """The bar that is asked for, of a sum of so many trees (None if that is not known)."""
+    if progress is False or (progress is True and sys.stderr is None):
         return Silent()
     if callable(progress):
         return _Told(total, progress)

@@ -13,6 +13,8 @@ from typing import List, Optional, Tuple
 
 from .choices import tree_count
 from .errors import CheckpointMismatch, ProgramFailed
+from .files import MOST_CHECKPOINT, MOST_SUM, check_folder, read_front, write_whole
+from .problem import Space
 from .program import PAUSED, Ended, Path, Sum, call, find, sum_of
 from .progress import Progress, bar
 
@@ -23,6 +25,7 @@ FIRST_BUDGET = 4 * ROUND
 """The budget of the first call of a sum in budgets; the further ones follow from how long it took."""
 
 MOST_BUDGET = 2**40
+"""The greatest budget that the program takes."""
 
 SECONDS = 2.0
 """About so long a call lasts if a sum is run in budgets: the bar moves so often, and so much is lost at most if the
@@ -37,10 +40,10 @@ class Runner:
     """How sums are run.
 
     `program` is the program, found as `program.find` says. `workers` share a sum (1 to 64); if none is given, one for
-    each processor, and one alone for a few trees. With `progress` a bar is shown. `folder` is a folder on disk in which
-    the checkpoint of each sum that is under way is kept, and the text of each that is done: a computation that was
-    broken off, and is asked again with the same folder, goes on where its last checkpoint stands. The files stay until
-    you remove them.
+    each processor, and one alone for a few trees. With `progress` a bar is shown. `folder` is a folder on disk, made if
+    it is not there, in which the checkpoint of each sum that is under way is kept, and the text of each that is done: a
+    computation that was broken off, and is asked again with the same folder, goes on where its last checkpoint stands.
+    The files stay until you remove them. If they cannot be read or written, that is an OSError.
     """
 
     program: Optional[Path] = None
@@ -49,7 +52,8 @@ class Runner:
     folder: Optional[Path] = None
 
     def sum(self, text: str, trees: Optional[int] = None) -> Sum:
-        """Sums the problem of a text, which has so many trees (None if that is not known)."""
+        """Sums the problem of a text, which has so many trees (None if that is not known). The errors are those of
+        `program.sum_of` and of `ended`."""
         if self.folder is None:
             return self.sum_with(text, trees, None)
         folder = pathlib.Path(self.folder)
@@ -57,8 +61,7 @@ class Runner:
         stem = folder / hashlib.sha256(text.encode()).hexdigest()[:24]
         done, checkpoint = stem.with_suffix(".sum"), stem.with_suffix(".checkpoint")
         if done.exists():
-            out = done.read_bytes()
-            return sum_of(Ended(0, out, ""))
+            return sum_of(Ended(0, read_front(done, MOST_SUM), ""))
         found = self.sum_with(text, trees, checkpoint)
         write_whole(done, found.text.encode())
         checkpoint.unlink(missing_ok=True)
@@ -70,7 +73,12 @@ class Runner:
         return sum_of(self.ended(text.encode(), trees, checkpoint))
 
     def ended(self, source: bytes, trees: Optional[int], checkpoint: Optional[Path]) -> Ended:
-        """How the last call of a sum ended. CheckpointMismatch if the checkpoint is that of another problem."""
+        """How the last call of a sum ended: with any status of the program but that of a pause.
+
+        Before the first call: ProgramNotFound; FileNotFoundError if the folder of the checkpoint is not there, and
+        another OSError if the file cannot be read or none be made there; CheckpointMismatch if the file is that of
+        another problem, or none. A checkpoint that is too long or was changed is the program's to refuse (status 8).
+        """
         program = find(self.program)
         words = ["--workers", str(self._workers(trees))]
         with tempfile.TemporaryDirectory(prefix="locus-") as scratch:
@@ -80,8 +88,9 @@ class Runner:
                 return call(program, ["run", str(problem), *words])
             kept = pathlib.Path(checkpoint) if checkpoint is not None else pathlib.Path(scratch) / "checkpoint"
             first = ["run", str(problem)]
+            check_folder(kept)
             if kept.exists():
-                if source_of(kept.read_bytes()) != source:
+                if source_of(read_front(kept, MOST_CHECKPOINT)) != source:
                     raise CheckpointMismatch(f"{kept} is the checkpoint of another problem, or none")
                 first = resume(kept)
             return self._in_budgets(program, first, words, kept, trees)
@@ -93,7 +102,7 @@ class Runner:
         budget = FIRST_BUDGET
         try:
             if first[0] == "resume":
-                shown.to(next_of(kept.read_bytes()))
+                shown.to(next_of(read_front(kept, MOST_CHECKPOINT)))
             while True:
                 begun = time.monotonic()
                 ended = call(program, [*first, *words, "--budget", str(budget)])
@@ -120,33 +129,20 @@ def resume(kept: pathlib.Path) -> List[str]:
 
 
 def next_budget(budget: int, seconds: float) -> int:
-    """The next call's budget, after one that lasted so long."""
+    """The next call's budget, after one that lasted so long: from one round to `MOST_BUDGET`, in whole rounds, and at
+    most four times the one before."""
     wanted = budget * min(4.0, max(0.25, SECONDS / max(seconds, 0.01)))
     return min(MOST_BUDGET, max(1, round(wanted / ROUND)) * ROUND)
 
 
-def write_whole(path: pathlib.Path, text: bytes) -> None:
-    """Writes a file under another name and then renames it, so that the name always has a whole text."""
-    handle, name = tempfile.mkstemp(prefix=path.name + ".", dir=path.parent)
-    try:
-        with os.fdopen(handle, "wb") as file:
-            file.write(text)
-            file.flush()
-            os.fsync(file.fileno())
-        os.replace(name, path)
-    except BaseException:
-        pathlib.Path(name).unlink(missing_ok=True)
-        raise
-
-
 def source_of(checkpoint: bytes) -> Optional[bytes]:
-    """The problem text inside a checkpoint; None if it is no checkpoint."""
+    """The problem text inside a checkpoint; None if it is no checkpoint. The digest is not looked at."""
     parts = _parts(checkpoint)
     return parts[0] if parts else None
 
 
 def next_of(checkpoint: bytes) -> int:
-    """The number of the next tree of a checkpoint, which is how many are summed."""
+    """The number of the next tree of a checkpoint, which is how many are summed. ProgramFailed if it is none."""
     parts = _parts(checkpoint)
     if parts is None:
         raise ProgramFailed(PAUSED, "what it printed is no checkpoint")
@@ -163,14 +159,15 @@ def _parts(checkpoint: bytes) -> Optional[Tuple[bytes, int]]:
 
 
 def trees_of_text(source: bytes) -> Optional[int]:
-    """How many trees the problem of a text has, if this Python can read it; None otherwise."""
+    """How many trees the problem of a text has. None if this Python does not read the text, or the space in it is none
+    within the limits: then the bar has no end, and the program tells what is wrong."""
     try:
         import tomllib
 
         table = tomllib.loads(source.decode())
-        numbers = (table["rank"], table["degree"], table.get("marks", 0))
-        return tree_count(*numbers) if all(type(number) is int and number <= 12 for number in numbers) else None
-    except (ImportError, ValueError, KeyError):
+        space = Space(table["rank"], table["degree"], table.get("marks", 0))
+        return tree_count(space.rank, space.degree, space.marks)
+    except (ImportError, ValueError, KeyError, TypeError, RecursionError):
         return None
 
 

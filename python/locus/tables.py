@@ -15,7 +15,8 @@ Column = Union[Integrand, Callable[[int], Integrand]]
 
 @dataclass(frozen=True)
 class Table:
-    """A table: the names of its columns, and its rows. In Jupyter it is shown as a table."""
+    """A table: the names of its columns, the first of which is `degree`, and its rows. A loop goes through its rows; it
+    prints as plain text, and Jupyter shows it as a table."""
 
     names: Tuple[str, ...]
     rows: Tuple[Tuple[Fraction, ...], ...]
@@ -27,7 +28,7 @@ class Table:
         return len(self.rows)
 
     def column(self, name: str) -> List[Fraction]:
-        """The numbers of a column, from the first row to the last."""
+        """The numbers of a column, from the first row to the last. ValueError if there is no column of this name."""
         place = self.names.index(name)
         return [row[place] for row in self.rows]
 
@@ -48,7 +49,8 @@ class Table:
 def table(
     rank: int, degrees: Iterable[SupportsIndex], classes: Union[Column, Mapping[str, Column]], **options: Any
 ) -> Table:
-    """A table with a row for each degree and a column for each of the classes, with the options of `compute`.
+    """A table with a row for each degree and a column for each of the classes, with the options and the errors of
+    `compute`.
 
     `classes` are classes, or a call that gives them for each degree, or several of these by the names of their columns,
     which share one walk over the trees.
@@ -72,7 +74,7 @@ def without_covers(numbers: Sequence[Fraction], exponent: int = 3) -> List[Fract
     """The numbers n_1, n_2, .. with N_d = the sum over k that divide d of n_(d/k) / k^exponent, for N_1, N_2, ..
 
     With the exponent 3 these are the instanton numbers of a Calabi–Yau threefold, whose curves are met k-fold with the
-    weight 1/k^3 (Aspinwall and Morrison 1993).
+    weight 1/k^3 (Aspinwall and Morrison 1993). The list begins with degree 1 and leaves out none.
 
     >>> without_covers([Fraction(2875), Fraction(4876875, 8)])
     [Fraction(2875, 1), Fraction(609250, 1)]

@@ -18,15 +18,17 @@ from math import factorial
 from operator import index
 from typing import Any, Dict, Iterator, List, Sequence, Tuple
 
-from .classes import Classes, incidence, mark, psi
+from .classes import Classes, incidence, mark, psi, whole
 from .computation import Integrand, compute
 
 
 def tangent(rank: int, degree: int, hypersurfaces: Sequence[int], classes: Integrand = 1, **options: Any) -> Fraction:
     """The number of curves with the given classes, without marks, that touch general hypersurfaces of these degrees.
 
-    It is the number of stable maps, in which maps that are no curves may count, such as double covers of lines. The
-    options are those of `compute`, but for `marks`. There is one run for each number of marks.
+    Each degree is a whole number from 1 on; otherwise it is a TypeError or a ValueError, as are classes with marks. The
+    options and the other errors are those of `compute`, but for `marks`. There is one run for each number of marks.
+
+    It is the number of stable maps, in which maps that are no curves may count, such as double covers of lines.
 
     >>> tangent(2, 1, [2, 2])                                     # lines tangent to two conics
     Fraction(4, 1)
@@ -36,8 +38,9 @@ def tangent(rank: int, degree: int, hypersurfaces: Sequence[int], classes: Integ
     given = Classes.of(classes)
     if given.highest_mark():
         raise ValueError("the classes beside tangencies have no marks")
+    degrees = [whole("tangent: b", b, 1, 10**9) for b in hypersurfaces]
     total = Fraction(0)
-    for marks, integrand in enumerate(_integrands(index(rank), [index(b) for b in hypersurfaces])):
+    for marks, integrand in enumerate(_integrands(index(rank), degrees)):
         if integrand != 0:
             total += compute(rank, degree, [integrand * given], marks=marks, **options).values[0]
     return total

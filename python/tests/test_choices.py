@@ -24,6 +24,13 @@ class Weights(unittest.TestCase):
         self.assertEqual(weights_for(4, 4), [1, 10, 100, 1000, 10000])
         self.assertEqual(weights_for(9, 6)[-1], 10**9)
 
+    def test_powers_of_a_number_fail_from_the_degree_after_it(self):
+        for base in range(2, 11):
+            powers = [base**exponent for exponent in range(5)]
+            generic = [degree for degree in range(1, 11) if are_generic(powers, degree)]
+            with self.subTest(base=base):
+                self.assertEqual(generic, list(range(1, base + 1)))
+
     def test_weights_with_a_mean_are_not_generic(self):
         self.assertFalse(are_generic([1, 2, 3], 2))
         self.assertTrue(are_generic([1, 2, 3], 1))

@@ -59,6 +59,16 @@ class Tangency(unittest.TestCase):
     def test_lines_tangent_to_two_curves(self):
         self.assertEqual(tangent(2, 1, [3, 4]), 3 * 2 * 4 * 3)  # where the dual curves meet
 
+    def test_the_degrees_of_hypersurfaces_are_whole_numbers_from_one_on(self):
+        for degrees, error in (([2, 0], ValueError), ([-1], ValueError), ([2.5], TypeError), (["2"], TypeError)):
+            with self.subTest(degrees=degrees), self.assertRaisesRegex(error, "tangent: b"):
+                tangent(2, 1, degrees, incidence(2))
+
+    def test_jets_beyond_contact_count_what_breaks_and_what_lies_in_the_hypersurface(self):
+        # Order 3 with a curve of degree b, of conics through three points: 3 b (b - 1) and 3 b pairs of lines.
+        self.assertEqual([gw(2, 2, jet(1, b, 3) * incidence(2) ** 3) for b in (1, 2, 3)], [3, 12, 27])
+        self.assertEqual(gw(3, 1, jet(1, 3, 5)), 27 * -5)  # the lines on a cubic surface
+
     def test_marks_stand_beside_no_tangency(self):
         with self.assertRaises(ValueError):
             tangent(2, 2, [1], mark(1) * incidence(2) ** 3)
@@ -127,6 +137,14 @@ class Choices(unittest.TestCase):
         self.assertEqual(result.runs[0].answer.integrals[0].residues, ((1000000007, 375609612),))
         with self.assertRaises(locus.NoFraction):
             gw(4, 2, "hypersurface(5)", bounds=(1000, 10))
+
+    def test_bounds_out_of_their_limits_are_told_before_a_run(self):
+        most = 2**62 - 1
+        self.assertEqual(gw(3, 1, hypersurface(3), bounds=(most, 1)), 27)
+        nothing = mock.patch.object(locus.Runner, "sum", side_effect=AssertionError)
+        for bounds in ((0, 1), (1, 0), (most + 1, 1), (1, most + 1), (27,)):
+            with self.subTest(bounds=bounds), nothing, self.assertRaises(ValueError):
+                gw(3, 1, hypersurface(3), bounds=bounds)
 
     def test_bounds_alone_take_as_few_moduli_as_they_need(self):
         result = compute(2, 3, [incidence(2) ** 8], bounds=(10**6, 10))

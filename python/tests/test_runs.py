@@ -12,7 +12,7 @@ import unittest
 from unittest import mock
 
 import locus
-from locus import Runner, runs
+from locus import Runner, files, runs
 from locus.__main__ import main
 from locus.program import Ended, sum_of
 from locus.progress import Plain, bar
@@ -138,11 +138,31 @@ class Budgets(InFolder):
         with self.assertRaisesRegex(locus.ProgramFailed, "status 8.*Damaged"):
             Runner().sum_with(QUARTICS, TREES, kept)
 
+    def test_a_checkpoint_that_is_too_long_is_refused_by_the_program(self):
+        kept = self.folder / "kept"
+        with small_budgets():
+            Runner().sum_with(QUARTICS, TREES, kept)
+        kept.write_bytes(kept.read_bytes().ljust(files.MOST_CHECKPOINT + 1))
+        with self.assertRaisesRegex(locus.ProgramFailed, "status 8.*1 TooLong"):
+            Runner().sum_with(QUARTICS, TREES, kept)
+
+    def test_no_more_of_a_file_is_read_than_tells_that_it_is_too_long(self):
+        self.assertEqual(len(files.read_front("/dev/zero", files.MOST_SOURCE)), 2**20 + 1)
+        self.assertEqual(files.read_front("/dev/null", 10), b"")
+
+    def test_a_checkpoint_without_its_folder_is_told_before_the_sum_begins(self):
+        with mock.patch.object(runs, "call", side_effect=AssertionError):
+            with self.assertRaisesRegex(FileNotFoundError, "folder of the checkpoint is not there"):
+                Runner().sum_with(QUARTICS, TREES, self.folder / "none" / "kept")
+            with mock.patch("os.access", return_value=False), mock.patch.object(runs, "find", return_value="locus"):
+                with self.assertRaisesRegex(PermissionError, "no file may be made"):
+                    Runner().sum_with(QUARTICS, TREES, self.folder / "kept")
+
     def test_a_file_is_replaced_whole_or_not_at_all(self):
         kept = self.folder / "kept"
-        runs.write_whole(kept, b"before")
+        files.write_whole(kept, b"before")
         with mock.patch("os.replace", side_effect=OSError), self.assertRaises(OSError):
-            runs.write_whole(kept, b"after")
+            files.write_whole(kept, b"after")
         self.assertEqual([path.name for path in self.folder.iterdir()], ["kept"])
         self.assertEqual(kept.read_bytes(), b"before")
 
@@ -179,6 +199,14 @@ class Answers(unittest.TestCase):
         self.assertIn("100 of 200 trees", out.getvalue())
         self.assertIn("150 of 200 trees, 0:10 left", out.getvalue())
 
+    def test_a_bar_that_cannot_be_written_ends_no_sum(self):
+        out = mock.Mock(write=mock.Mock(side_effect=OSError))
+        shown = Plain(200, out)
+        shown.to(100)
+        shown.close()
+        self.assertEqual(out.write.call_count, 2)
+        with mock.patch("sys.stderr", None):
+            bar(True, 200).to(100)
 
     def test_the_bar_is_that_of_tqdm_if_it_is_there(self):
         made = mock.Mock(n=0)
@@ -218,6 +246,35 @@ class CommandLine(InFolder):
         self.assertEqual(self.ended(self.folder / "none", "--quiet")[0], 6)
         self.assertEqual(self.ended(problem, "--quiet", "--program", self.folder)[0], 70)
 
+    def test_a_file_of_any_length_is_refused_as_the_program_refuses_it(self):
+        self.assertEqual(self.ended("/dev/zero", "--quiet"), (3, "", "problem refused 1 TooLong\n"))
+
+    def test_a_checkpoint_without_its_folder_has_status_70(self):
+        problem = self.folder / "problem.toml"
+        problem.write_text(QUARTICS)
+        status, out, told = self.ended(problem, "--checkpoint", self.folder / "none" / "kept")
+        self.assertEqual((status, out), (70, ""))
+        self.assertEqual(told, f"locus: the folder of the checkpoint is not there: {self.folder / 'none'}\n")
+
+    def test_an_output_that_takes_no_more_has_status_7(self):
+        problem, kept = self.folder / "problem.toml", self.folder / "kept"
+        problem.write_text(QUARTICS)
+        for words, told in ((">/dev/full", "write fault\n"), (">&-", "write fault\n"), (">/dev/full 2>&-", "")):
+            command = f'"$0" -m locus "$1" --quiet --checkpoint "$2" {words}'
+            ended = subprocess.run(["sh", "-c", command, sys.executable, problem, kept], cwd=PYTHON, capture_output=True)
+            with self.subTest(words=words):
+                self.assertEqual((ended.returncode, ended.stdout, ended.stderr.decode()), (7, b"", told))
+
+    def test_a_fault_of_standard_error_changes_no_status(self):
+        problem = self.folder / "problem.toml"
+        problem.write_text(QUARTICS)
+        for name, words, status in ((problem, "2>/dev/full", 0), (problem, "2>&-", 0), ("none", "2>/dev/full", 6)):
+            command = f'"$0" -m locus "$1" {words}'
+            ended = subprocess.run(["sh", "-c", command, sys.executable, name], cwd=PYTHON, capture_output=True)
+            with self.subTest(name=name, words=words):
+                self.assertEqual((ended.returncode, ended.stdout.decode()), (status, "" if status else PRINTED))
+
     def test_the_trees_of_a_text_are_counted(self):
         self.assertIn(runs.trees_of_text(QUARTICS.encode()), (TREES, None))
-        self.assertIsNone(runs.trees_of_text(b"rank = "))
+        for text in ("rank = ", "rank = 2", "a = " + "[" * 100_000, QUARTICS.replace("rank = 2", "rank = -2")):
+            self.assertIsNone(runs.trees_of_text(text.encode()))
