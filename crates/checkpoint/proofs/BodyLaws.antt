@@ -23,7 +23,7 @@ pub record SourceIn (text source rest : List ℕ) : Type 0 where
   pub parts : text ≡ source_text source ++ rest
   pub fits : length source < 2 ^ 64
 
-source_takes : (text source rest : List ℕ) → source_at text ≡ Some (source, rest) → SourceIn text source rest
+pub source_takes : (text source rest : List ℕ) → source_at text ≡ Some (source, rest) → SourceIn text source rest
 unfolding source_at
 source_takes text source rest h =
     let found : ℕ × List ℕ → Option (List ℕ × List ℕ) =
@@ -52,7 +52,7 @@ source_takes text source rest h =
           })
     ]
 
-source_again : (source rest : List ℕ) → length source < 2 ^ 64
+pub source_again : (source rest : List ℕ) → length source < 2 ^ 64
     → source_at (source_text source ++ rest) ≡ Some (source, rest)
 unfolding source_at
 source_again source rest small =
@@ -197,10 +197,10 @@ test_known v (inr two) = or_right (eqb v 1) (eqb v 2) (eq-eqb v 2 two)
 test_unknown : (v : ℕ) → ¬ (IsKnownVersion v) → (eqb v 1 || eqb v 2) ≡ false
 test_unknown v other = false_from_ne_true _ (λ h. other (known_test v h))
 
-bytes_same : (xs ys : List ℕ) → xs ≡ ys → bytes_eq xs ys ≡ true
+pub bytes_same : (xs ys : List ℕ) → xs ≡ ys → bytes_eq xs ys ≡ true
 bytes_same xs ys h = (bytes_eq-Decides xs ys).1 h
 
-bytes_differ : (xs ys : List ℕ) → xs ≢ ys → bytes_eq xs ys ≡ false
+pub bytes_differ : (xs ys : List ℕ) → xs ≢ ys → bytes_eq xs ys ≡ false
 bytes_differ xs ys h = false_from_ne_true _ (λ same. h ((bytes_eq-Decides xs ys).0 same))
 
 pub parts_take : (text body kept : List ℕ) (v : ℕ) (rest : List ℕ) → unsealed_at text ≡ Some (body, kept)

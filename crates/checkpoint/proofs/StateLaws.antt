@@ -86,7 +86,7 @@ line_rules c p =
 abbrev next_rules : Contents → ProblemView → Result StateView CheckpointError
 next_rules c p = keep (leb c.next (count_of p)) (NextTooLarge c.next (count_of p)) >>= (λ _. line_rules c p)
 
-rows_of_concat : (m : ℕ) (rows : List (List ℕ)) → AllByRecursion (λ row. length row ≡ m) rows
+pub rows_of_concat : (m : ℕ) (rows : List (List ℕ)) → AllByRecursion (λ row. length row ≡ m) rows
     → rows_of m (length rows) (concat rows) ≡ rows
 rows_of_concat m [] h = refl
 rows_of_concat m (row ∷ rows) h =

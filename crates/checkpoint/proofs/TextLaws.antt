@@ -55,7 +55,7 @@ sha256_digest m = record { count = length-sha256 m; bytes = sha256_small m }
 
 -- ---- how much a text can write
 
-row_in : (rows : List (List ℕ)) (i : ℕ) → length (get_or rows i []) ≤ length (concat rows)
+pub row_in : (rows : List (List ℕ)) (i : ℕ) → length (get_or rows i []) ≤ length (concat rows)
 row_in [] i = omega arith
 row_in (row ∷ rows) zero = omega (arith, length-append row (concat rows))
 row_in (row ∷ rows) (suc i) = omega (arith, length-append row (concat rows), row_in rows i)
@@ -67,7 +67,7 @@ row_long row =
     (λ r. omega (arith, length-append (codes " ") (decimal r))) row in
     omega (arith, long, length-append (codes "residues" ++ flat_map residue_text row) (codes "\n"), length-append (codes "residues") (flat_map residue_text row))
 
-concat_long : (rows : List (List ℕ)) → length (concat rows) ≤ length (flat_map residues_line rows)
+pub concat_long : (rows : List (List ℕ)) → length (concat rows) ≤ length (flat_map residues_line rows)
 concat_long [] = omega arith
 concat_long (row ∷ rows) =
     omega (arith, length-append row (concat rows), length-append (residues_line row) (flat_map residues_line rows), row_long row, concat_long rows)
@@ -193,7 +193,7 @@ written_ok text c fits h =
     let p : Parts = record { kept = a.0.1; body = a.0.0; version = b.0.0; rest = b.0.1 } in
     sound_ok text fits p (parts_take text a.0.0 a.0.1 b.0.0 b.0.1 (ok_or_ok _ _ _ a.1) (ok_or_ok _ _ _ b.1)) c b.2
 
-some_none : {A : Type 0} (x : A) (o : Option A) → o ≡ Some x → o ≡ None → ⊥
+pub some_none : {A : Type 0} (x : A) (o : Option A) → o ≡ Some x → o ≡ None → ⊥
 some_none x o h k = let clash = sym h ∙ k in cc clash
 
 pub written_err : (text : List ℕ) (e : CheckpointError) → IsShort text → written_at text ≡ Err e → IsCheckpointRefusal text e

@@ -23,7 +23,7 @@ use Rattle.checkpoint.proofs.WordLaws.{chosen}
 
 -- ---- rows of a list
 
-length_rows_of : (m count : ℕ) (xs : List ℕ) → length (rows_of m count xs) ≡ count
+pub length_rows_of : (m count : ℕ) (xs : List ℕ) → length (rows_of m count xs) ≡ count
 length_rows_of m zero xs = refl
 length_rows_of m (suc count) xs = ap suc (length_rows_of m count (drop m xs))
 
@@ -34,13 +34,13 @@ room_next m count xs room =
     let d = length-drop m xs in
     (grind (arith, t, room), grind (arith, d, room))
 
-concat_rows_of : (m count : ℕ) (xs : List ℕ) → length xs ≡ count * m → concat (rows_of m count xs) ≡ xs
+pub concat_rows_of : (m count : ℕ) (xs : List ℕ) → length xs ≡ count * m → concat (rows_of m count xs) ≡ xs
 concat_rows_of m zero xs room = sym (nil_from_length xs (grind (arith, room)))
 concat_rows_of m (suc count) xs room =
     ap (λ (t : List ℕ). take m xs ++ t) (concat_rows_of m count (drop m xs) (room_next m count xs room).1)
     ∙ take-append-drop m xs
 
-each_row_of : (m count : ℕ) (xs : List ℕ) → length xs ≡ count * m
+pub each_row_of : (m count : ℕ) (xs : List ℕ) → length xs ≡ count * m
     → AllByRecursion (λ row. length row ≡ m) (rows_of m count xs)
 each_row_of m zero xs room = tt
 each_row_of m (suc count) xs room = let r = room_next m count xs room in (r.0, each_row_of m count (drop m xs) r.1)
@@ -60,7 +60,7 @@ small_take m xs le h j lt =
 small_drop : (m : ℕ) (xs : List ℕ) → AreSmall xs → AreSmall (drop m xs)
 small_drop m xs h j lt = rw get_or-drop (h (m + j) (omega (arith, length-drop m xs)))
 
-rows_are : (m count : ℕ) (xs : List ℕ) → 1 ≤ m → length xs ≡ count * m → AreSmall xs
+pub rows_are : (m count : ℕ) (xs : List ℕ) → 1 ≤ m → length xs ≡ count * m → AreSmall xs
     → AllByRecursion IsRow (rows_of m count xs)
 rows_are m zero xs some room small = tt
 rows_are m (suc count) xs some room small =
@@ -70,7 +70,7 @@ rows_are m (suc count) xs some room small =
 
 -- ---- the contents of a state
 
-source_short : (source : List ℕ) (p : ProblemView) → reading source ≡ Ok p → length source ≤ 1048576
+pub source_short : (source : List ℕ) (p : ProblemView) → reading source ≡ Ok p → length source ≤ 1048576
 unfolding reading
 source_short source p h =
     elim (chosen_problem (ltb 1048576 (length source)) (Err problem_errors.TooLong) (reading_of_any_length source) (Ok p) h) [
@@ -82,7 +82,7 @@ source_short source p h =
         → ((b ≡ true) × (x ≡ z)) ⊎ ((b ≡ false) × (y ≡ z))
     chosen_problem b x y z e = chosen b x y z e
 
-residues_small : (s : StateView) → IsState s → AreSmall s.residues
+pub residues_small : (s : StateView) → IsState s → AreSmall s.residues
 residues_small s is j lt =
     let ms = s.problem.moduli in
     let moduli = is.rules.moduli in
@@ -120,7 +120,7 @@ module _ (v : ℕ) (s : StateView) (is : IsState s) (known : IsKnownVersion v) (
 
 -- ---- how long a text is
 
-line_short : (word : List ℕ) (k : ℕ) → k < 2 ^ 64 → length (number_line word k) ≤ length word + 21
+pub line_short : (word : List ℕ) (k : ℕ) → k < 2 ^ 64 → length (number_line word k) ≤ length word + 21
 line_short word k small =
     let d = length-decimal-le 20 k (omega arith) (omega arith) small in
     omega (arith, d, length-append (word ++ decimal k) (codes "\n"), length-append word (decimal k))
@@ -136,7 +136,7 @@ row_short : (m : ℕ) (row : List ℕ) → m ≤ 8 → length row ≡ m → IsRo
 row_short m row few count is =
     omega (arith, count, residues_short row is.numbers, length-append (codes "residues" ++ flat_map residue_text row) (codes "\n"), length-append (codes "residues") (flat_map residue_text row))
 
-rows_short : (m : ℕ) (rows : List (List ℕ)) → m ≤ 8 → AllByRecursion IsRow rows
+pub rows_short : (m : ℕ) (rows : List (List ℕ)) → m ≤ 8 → AllByRecursion IsRow rows
     → AllByRecursion (λ row. length row ≡ m) rows → length (flat_map residues_line rows) ≤ length rows * 177
 rows_short m [] few are each = omega arith
 rows_short m (row ∷ rows) few are each =
@@ -147,7 +147,7 @@ sum_of_five : (a s n f k : List ℕ)
 sum_of_five a s n f k =
     omega (arith, length-append (a ++ s ++ n ++ f) k, length-append (a ++ s ++ n) f, length-append (a ++ s) n, length-append a s)
 
-source_line_short : (source : List ℕ) → length source ≤ 1048576 → length (source_text source) ≤ 1048606
+pub source_line_short : (source : List ℕ) → length source ≤ 1048576 → length (source_text source) ≤ 1048606
 source_line_short source short =
     let front = number_line (codes "problem ") (length source) in
     omega (arith, length-append (front ++ source) (codes "\n"), length-append front source, line_short (codes "problem ") (length source) (omega (arith, short)))

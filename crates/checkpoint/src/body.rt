@@ -1,7 +1,7 @@
 //! What a text writes, from its first line to its last.
 
-ghost use Rattle.std.specs.Prelude.{◌≡◌, ◌||◌, option_map, map};
-ghost use Rattle.checkpoint.specs.Readers.{source_at, contents_at, sound_at, written_at};
+ghost use Rattle.std.specs.Prelude.{◌≡◌, ◌||◌, map};
+ghost use Rattle.checkpoint.specs.Readers.{contents_at, sound_at, written_at};
 ghost use Rattle.checkpoint.specs.Bodies.{contents_of};
 ghost use Rattle.checkpoint.specs.Steps.{Gives};
 
@@ -9,7 +9,7 @@ use crate::decimal::number_line;
 use crate::error::CheckpointError;
 use crate::rows::rows;
 use crate::seal::{digest, unsealed};
-use crate::words::after_word;
+use crate::sources::source;
 use std::alloc::Global;
 
 /// What a checkpoint writes: its version, the source, the number of the next tree, and the residues of each line.
@@ -19,20 +19,6 @@ pub(crate) struct Body<'a> {
     pub source: &'a [u8],
     pub next: u64,
     pub rows: Vec<Vec<u64>>,
-}
-
-/// A source, whose length stands before it, and what follows its line feed.
-#[tactic(auto, unfolding(crate::specs::Readers::source_at))]
-fn source(text: &[u8]) -> Option<(&[u8], &[u8])>
-    ensures { option_map (λ x. (x.0.now, x.1.now)) result ≡ source_at text.now }
-{
-    let (length, rest) = number_line(text, b"problem ")?;
-    if length > rest.len() as u64 {
-        return None;
-    }
-    let (source, rest) = rest.split_at(length as usize);
-    let rest = after_word(rest, b"\n")?;
-    Some((source, rest))
 }
 
 /// The lines of a body after its first.

@@ -44,7 +44,7 @@ fn appended(number: u64, digit: u8) -> Option<u64>
 
 /// The decimal at the start of a text, and what follows it.
 #[tactic(auto, unfolding(crate::specs::Readers::decimal_at))]
-pub(crate) fn decimal(text: &[u8]) -> Option<(u64, &[u8])>
+pub fn decimal(text: &[u8]) -> Option<(u64, &[u8])>
     ensures value { option_map (λ x. (x.0, x.1.now)) result ≡ decimal_at text.now }
     ensures shorter { IfSome result (λ x. length x.1.now < length text.now) }
 {
@@ -56,7 +56,7 @@ pub(crate) fn decimal(text: &[u8]) -> Option<(u64, &[u8])>
 
 /// The number of a line that begins with a word, and what follows the line.
 #[tactic(auto, unfolding(crate::specs::Readers::number_line_at))]
-pub(crate) fn number_line<'a>(text: &'a [u8], word: &[u8]) -> Option<(u64, &'a [u8])>
+pub fn number_line<'a>(text: &'a [u8], word: &[u8]) -> Option<(u64, &'a [u8])>
     ensures { option_map (λ x. (x.0, x.1.now)) result ≡ number_line_at word.now text.now }
 {
     let (number, rest) = decimal(after_word(text, word)?)?;
@@ -65,7 +65,7 @@ pub(crate) fn number_line<'a>(text: &'a [u8], word: &[u8]) -> Option<(u64, &'a [
 }
 
 /// Appends the decimal of a number.
-pub(crate) fn append_decimal(text: &mut Vec<u8>, number: u64) -> Result<(), NoMemory>
+pub fn append_decimal(text: &mut Vec<u8>, number: u64) -> Result<(), NoMemory>
     ensures { OnOk result (text.new.items ≡ text.old.items ++ decimal number) }
 {
     text.extend_from_slice(itoa::Buffer::new().format(number).as_bytes())?;
@@ -74,11 +74,7 @@ pub(crate) fn append_decimal(text: &mut Vec<u8>, number: u64) -> Result<(), NoMe
 
 /// Appends a word, a number and a line feed.
 #[tactic(auto, using(std::proofs::Common::append_assoc))]
-pub(crate) fn append_number_line(
-    text: &mut Vec<u8>,
-    word: &[u8],
-    number: u64,
-) -> Result<(), NoMemory>
+pub fn append_number_line(text: &mut Vec<u8>, word: &[u8], number: u64) -> Result<(), NoMemory>
     ensures { OnOk result (text.new.items ≡ text.old.items ++ number_line word.now number) }
 {
     text.extend_from_slice(word)?;

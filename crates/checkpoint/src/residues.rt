@@ -13,7 +13,7 @@ use residue::{Moduli, NoMemory};
 use std::alloc::Global;
 
 /// A count as 32 bits hold it.
-pub(crate) fn shown_count(count: usize) -> u32
+pub fn shown_count(count: usize) -> u32
     ensures { result ≡ shown_count count }
 {
     count.min(u32::MAX as usize) as u32
@@ -21,7 +21,7 @@ pub(crate) fn shown_count(count: usize) -> u32
 
 /// Each row has one residue for each modulus.
 #[tactic(auto, using(std::proofs::lemmas::List::drop_more))]
-pub(crate) fn check_counts(rows: &[Vec<u64>], wanted: u32) -> Result<(), CheckpointError>
+pub fn check_counts(rows: &[Vec<u64>], wanted: u32) -> Result<(), CheckpointError>
     ensures value { GivesSurely (λ _. tt) result (counts_fit wanted (numbers_of rows.now)) }
     ensures joined { OnOk result (length (concat (numbers_of rows.now)) ≡ length rows.now * wanted) }
 {
@@ -38,7 +38,7 @@ pub(crate) fn check_counts(rows: &[Vec<u64>], wanted: u32) -> Result<(), Checkpo
 
 /// The residues of the rows, one row after the other.
 #[tactic(auto, using(std::proofs::lemmas::List::drop_more, std::proofs::Common::append_assoc))]
-pub(crate) fn joined(alloc: Global, rows: &[Vec<u64>]) -> Result<Vec<u64>, NoMemory>
+pub fn joined(alloc: Global, rows: &[Vec<u64>]) -> Result<Vec<u64>, NoMemory>
     ensures { IfOk result (λ residues. residues.items ≡ concat (numbers_of rows.now)) }
 {
     let mut residues = Vec::new(alloc);
@@ -50,7 +50,7 @@ pub(crate) fn joined(alloc: Global, rows: &[Vec<u64>]) -> Result<Vec<u64>, NoMem
 
 /// Each residue is below its modulus.
 #[tactic(auto, using(std::proofs::lemmas::List::drop_more))]
-pub(crate) fn check_residues(moduli: &Moduli, residues: &[u64]) -> Result<(), CheckpointError>
+pub fn check_residues(moduli: &Moduli, residues: &[u64]) -> Result<(), CheckpointError>
     requires { 1 ≤ length moduli.now }
     ensures value { GivesSurely (λ _. tt) result (residues_fit moduli.now 0 residues.now) }
     ensures below { OnOk result (AreBelow moduli.now residues.now) }
@@ -68,7 +68,7 @@ pub(crate) fn check_residues(moduli: &Moduli, residues: &[u64]) -> Result<(), Ch
 /// The modulus of the residue with an index. Residues are listed integral by integral, and within one integral modulus
 /// by modulus.
 #[tactic(auto, using(std::proofs::lemmas::Option::get_or_from_slice_get))]
-fn modulus_at(moduli: &Moduli, place: usize) -> u64
+pub fn modulus_at(moduli: &Moduli, place: usize) -> u64
     requires { 1 ≤ length moduli.now }
     ensures { result ≡ modulus_at moduli.now place }
 {
@@ -76,7 +76,7 @@ fn modulus_at(moduli: &Moduli, place: usize) -> u64
 }
 
 /// So many residues 0.
-pub(crate) fn zeros(alloc: Global, count: usize) -> Result<Vec<u64>, NoMemory>
+pub fn zeros(alloc: Global, count: usize) -> Result<Vec<u64>, NoMemory>
     ensures { IfOk result (λ residues. residues.items ≡ replicate count 0) }
 {
     Ok(vec![in alloc; 0; count]?)

@@ -65,7 +65,7 @@ fn row(alloc: Global, text: &[u8]) -> Result<(Vec<u64>, &[u8]), CheckpointError>
 
 /// The residues of the lines of a text, to its end.
 #[tactic(auto, unfolding(crate::specs::Readers::rows_at))]
-pub(crate) fn rows(alloc: Global, text: &[u8]) -> Result<Vec<Vec<u64>>, CheckpointError>
+pub fn rows(alloc: Global, text: &[u8]) -> Result<Vec<Vec<u64>>, CheckpointError>
     ensures { Gives (λ rows. (numbers_of rows.items, [])) result (rows_at text.now) }
 {
     let mut rows = Vec::new(alloc);
@@ -102,7 +102,7 @@ fn append_residues(text: &mut Vec<u8>, residues: &[u64]) -> Result<(), NoMemory>
 
 /// Appends so many lines of residues, each of as many as there are moduli.
 #[tactic(auto, using(crate::proofs::RowLaws::rows_next, crate::proofs::RowLaws::rows_room, std::proofs::Common::append_assoc))]
-pub(crate) fn append_rows(
+pub fn append_rows(
     text: &mut Vec<u8>,
     count: usize,
     moduli: usize,

@@ -14,7 +14,7 @@ use std::alloc::Global;
 const SEAL_LENGTH: usize = 72;
 
 /// The digest of a body.
-pub(crate) fn digest(body: &[u8]) -> [u8; 32]
+pub fn digest(body: &[u8]) -> [u8; 32]
     ensures { result ≡ sha256 body.now }
 {
     Sha256::digest(body)
@@ -38,7 +38,7 @@ fn written_digest(digits: &[u8]) -> Option<[u8; 32]>
 
 /// All of a text but its last line, and the digest that this line keeps.
 #[tactic(auto, unfolding(crate::specs::Readers::unsealed_at))]
-pub(crate) fn unsealed(text: &[u8]) -> Option<(&[u8], [u8; 32])>
+pub fn unsealed(text: &[u8]) -> Option<(&[u8], [u8; 32])>
     ensures { option_map (λ x. (x.0.now, x.1)) result ≡ unsealed_at text.now }
 {
     let (body, line) = text.split_at(text.len().saturating_sub(SEAL_LENGTH));
@@ -49,7 +49,7 @@ pub(crate) fn unsealed(text: &[u8]) -> Option<(&[u8], [u8; 32])>
 
 /// Appends the last line.
 #[tactic(auto, using(std::proofs::Common::append_assoc))]
-pub(crate) fn append_seal(alloc: Global, text: &mut Vec<u8>) -> Result<(), NoMemory>
+pub fn append_seal(alloc: Global, text: &mut Vec<u8>) -> Result<(), NoMemory>
     ensures { OnOk result (text.new.items ≡ text.old.items ++ seal (sha256 text.old.items)) }
 {
     let digits = hex::encode(alloc, digest(text.as_slice()))?;

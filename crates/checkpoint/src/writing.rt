@@ -1,25 +1,15 @@
 //! The text of a state.
 
-ghost use Rattle.std.specs.Prelude.{◌≡◌, ◌++◌, length, IfOk, OnOk};
-ghost use Rattle.checkpoint.specs.Texts.{source_text, body_of, contents_in, text_in};
+ghost use Rattle.std.specs.Prelude.{◌≡◌, IfOk};
+ghost use Rattle.checkpoint.specs.Texts.{body_of, contents_in, text_in};
 
 use crate::decimal::append_number_line;
 use crate::rows::append_rows;
 use crate::seal::append_seal;
+use crate::sources::append_source;
 use crate::state::State;
 use residue::NoMemory;
 use std::alloc::Global;
-
-/// Appends a source with its length before it and a line feed after it.
-#[tactic(auto, using(std::proofs::Common::append_assoc))]
-fn append_source(text: &mut Vec<u8>, source: &[u8]) -> Result<(), NoMemory>
-    ensures { OnOk result (text.new.items ≡ text.old.items ++ source_text source.now) }
-{
-    append_number_line(text, b"problem ", source.len() as u64)?;
-    text.extend_from_slice(source)?;
-    text.extend_from_slice(b"\n")?;
-    Ok(())
-}
 
 /// The body of the text of a state in version 2.
 #[tactic(auto, using(std::proofs::Common::append_assoc))]
