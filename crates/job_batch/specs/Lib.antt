@@ -1,0 +1,4 @@
+pub mod Batch
+pub mod Seats
+pub mod Ends
+pub mod Workers
