@@ -1,0 +1,14 @@
+pub mod Tiles
+pub mod Walked
+pub mod Refused
+pub mod Tiled
+pub mod Sums
+pub mod Unions
+pub mod Pieces
+pub mod Truth
+pub mod StepLaws
+pub mod ContentsLaws
+pub mod TextLaws
+pub mod ShardLaws
+pub mod WrittenShards
+pub mod ReadingLaws

@@ -1,0 +1,9 @@
+pub mod Ranges
+pub mod Shards
+pub mod Texts
+pub mod Merges
+pub mod Walks
+pub mod Steps
+pub mod Refusals
+pub mod Readers
+pub mod Bodies
