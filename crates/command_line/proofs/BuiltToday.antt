@@ -7,7 +7,7 @@ use Rattle.command_words.specs.Words.{number_in, plains_in}
 use Rattle.command_line.specs.declared.table.Commands.TheVariants as commands
 use Rattle.command_line.specs.Asked.{Asks, values_of}
 use Rattle.command_line.specs.Limits.{IsBuilt}
-use Rattle.command_line.specs.Requests.{Options, Request, run, resume, make, soak, sum_asked, workers_in}
+use Rattle.command_line.specs.Requests.{Options, Request, run, resume, make, soak, rank, unrank, sum_asked, workers_in}
 use Rattle.command_line.specs.Table.{CommandRule, rules_of}
 use Rattle.command_line.specs.Table as table
 
@@ -35,6 +35,18 @@ soak_built [] os r e = cc
 soak_built (n ∷ []) os r e = from_map (λ number. soak number (workers_in os)) (number_in n) r (λ s. tt) e
 soak_built (n ∷ m ∷ ws) os r e = cc
 
+rank_built : AsksBuilt table.rank
+rank_built [] os r e = cc
+rank_built (file ∷ []) os r e = cc
+rank_built (file ∷ text ∷ []) os r e = subst IsBuilt (same_Some (rank file text) r e) tt
+rank_built (file ∷ text ∷ w ∷ ws) os r e = cc
+
+unrank_built : AsksBuilt table.unrank
+unrank_built [] os r e = cc
+unrank_built (file ∷ []) os r e = cc
+unrank_built (file ∷ k ∷ []) os r e = from_map (unrank file) (number_in k) r (λ k. tt) e
+unrank_built (file ∷ k ∷ w ∷ ws) os r e = cc
+
 abbrev Each : List CommandRule → Type 0
 Each [] = Unit
 Each (r ∷ rs) = AsksBuilt r × Each rs
@@ -46,5 +58,5 @@ pick (x ∷ rs) r each (suc k, lt, is) = pick rs r each.1 (k, omega arith, is)
 
 pub built_request : (words : List Text) (request : Request) → Asks commands.Built words request → IsBuilt request
 built_request words request a =
-    pick (rules_of commands.Built) a.rule (run_built, (resume_built, (make_built, (soak_built, tt)))) a.known
+    pick (rules_of commands.Built) a.rule (run_built, (resume_built, (make_built, (soak_built, (rank_built, (unrank_built, tt)))))) a.known
     (plains_in a.items) (values_of a.items) request a.asked

@@ -4,5 +4,5 @@ pub mod Consequences
 mod Names
 mod Rules
 pub mod Sound
-mod Within
+pub mod Within
 mod Worked

@@ -139,7 +139,13 @@ pick (x ∷ rs) r each (suc k, lt, is) = pick rs r each.1 (k, omega arith, is)
 each : (c : Commands) → Each (rules_of c)
 each commands.Built = (
   (run_some (codes "run") (table.workers ∷ table.budget ∷ table.stop_file ∷ []), λ ws os. refl),
-  ((resume_some, λ ws os. refl), ((make_some, λ ws os. refl), ((soak_some, λ ws os. refl), tt))),
+  (
+    (resume_some, λ ws os. refl),
+    (
+      (make_some, λ ws os. refl),
+      ((soak_some, λ ws os. refl), ((rank_some, λ ws os. refl), ((unrank_some, λ ws os. refl), tt))),
+    ),
+  ),
 )
 each commands.All = (
   (run_some (codes "run") (table.workers ∷ table.budget ∷ table.stop_file ∷ []), λ ws os. refl),

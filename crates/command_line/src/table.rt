@@ -9,13 +9,13 @@ use command_words::{CommandRow, Program};
 /// Which commands are accepted.
 #[derive(Clone, Copy, Debug, PartialEq, Eq)]
 pub enum Commands {
-    /// Those that the program has today: `run`, `resume`, `make` and `soak`.
+    /// Those that the program has today: `run`, `resume`, `make`, `soak`, `rank` and `unrank`.
     Built,
     /// All that are planned, with all their options.
     All,
 }
 
-const BUILT_ROWS: [CommandRow<'static>; 4] = [RUN, RESUME, MAKE, SOAK];
+const BUILT_ROWS: [CommandRow<'static>; 6] = [RUN, RESUME, MAKE, SOAK, RANK, UNRANK];
 
 const ALL_ROWS: [CommandRow<'static>; 11] = [
     RUN, RESUME, MAKE, SOAK, TREES, RANK, UNRANK, SPLIT, MERGE, BATCH, CROSS,
@@ -27,7 +27,9 @@ const BUILT_USAGE: &str = concat!(
     "  run FILE [--workers N] [--budget N] [--stop-file NAME]     sum a problem and print its residues and fractions\n",
     "  resume FILE [--workers N] [--budget N] [--stop-file NAME]  go on with a sum that was paused\n",
     "  make N                                                     print the generated problem of a number\n",
-    "  soak N [--workers N]                                       sum the generated problem of a number",
+    "  soak N [--workers N]                                       sum the generated problem of a number\n",
+    "  rank FILE TEXT                                             print the number of a tree\n",
+    "  unrank FILE K                                              print the tree of a number",
 );
 
 /// What is printed if the arguments name no command.

@@ -8,15 +8,15 @@ use Rattle.checkpoint.specs.States.{StateView}
 use Rattle.checkpoint.specs.Texts.{text_in, IsTextOf}
 use Rattle.report.specs.Texts.{done_text, no_inverse_text}
 use Rattle.rounds.specs.Outcomes.{sum_of, IsTrueSum}
-use Rattle.command_line.specs.Requests.{Request, Sum, run, resume, make}
+use Rattle.command_line.specs.Requests.{Request, Sum, run, resume, make, rank, unrank}
 use Rattle.locus_core.specs.Words.{AsksFor}
 use Rattle.locus_core.specs.Outside.{TakesText}
 use Rattle.locus_core.specs.Begins.{Beginning, Begins, IsTrueBeginning}
-use Rattle.locus_core.specs.Comes.{state_at}
+use Rattle.locus_core.specs.Comes.{state_at, problem_file_of}
 use Rattle.locus_core.specs.Ends.{Run, Ends}
-use Rattle.locus_core.specs.Headline.{IsDoneStatus, IsMaking}
+use Rattle.locus_core.specs.Headline.{IsDoneStatus, SumsNothing}
 use Rattle.locus_core.specs.Chains.{ReadsFile, HasPrinted, IsChainOfRuns, begins, resumes, PrintsKontsevichSums, NamesLeastOfAll, PausesTruly, IsAtEnd, EndsChain, EndsItsChains}
-use Rattle.locus_core.proofs.Inversions.{same_request, same_bytes, run_not_resume, run_not_make, resume_not_make, begun_by_run, begun_by_resume, not_both_read, not_both_states, same_state}
+use Rattle.locus_core.proofs.Inversions.{same_request, same_bytes, same_file, differ, file_of_problem, run_not_resume, begun_by_run, begun_by_resume, not_both_read, not_both_states, same_state}
 use Rattle.locus_core.proofs.Headline.{sums, refusal, pause, bytes}
 use Rattle.locus_core.proofs.SameEnds.{same_text, Concludes, same_end}
 
@@ -55,11 +55,26 @@ begins_truly source p _ (resumes before r text chain ends printed f) reads reque
       truth = subst IsTrueBeginning (sym h.is) (inr (subst (λ s. IsTrueSum (sum_of s)) states (c.truth t.truth)));
     }
 
--- no run of a chain makes a text, or is refused
-makes_nothing : (source : List ℕ) (r : Run) → IsChainOfRuns source r → IsMaking r → ⊥
-makes_nothing source _ (begins r f) (k, asks) = run_not_make f.sum k (same_request r (run f.sum) (make k) f.words asks)
-makes_nothing source _ (resumes before r text chain ends printed f) (k, asks) =
-    resume_not_make f.sum k (same_request r (resume f.sum) (make k) f.words asks)
+-- no run of a chain is asked for anything but a sum, or is refused
+asks_no_other : (source : List ℕ) (r : Run) → IsChainOfRuns source r → (other : Request) → AsksFor r.words other → ((s : Sum) → other ≢ run s)
+    → ((s : Sum) → other ≢ resume s) → ⊥
+asks_no_other source _ (begins r f) other asks no_run no_resume = no_run f.sum (same_request r other (run f.sum) asks f.words)
+asks_no_other source _ (resumes before r text chain ends printed f) other asks no_run no_resume =
+    no_resume f.sum (same_request r other (resume f.sum) asks f.words)
+
+asks_no_number : (source : List ℕ) (r : Run) → IsChainOfRuns source r → (name text : List ℕ) → AsksFor r.words (rank name text) → ⊥
+asks_no_number source r chain name text asks =
+    asks_no_other source r chain (rank name text) asks (λ s e. differ (rank name text) (run s) e (λ x. cc)) (λ s e. differ (rank name text) (resume s) e (λ x. cc))
+
+asks_no_tree : (source : List ℕ) (r : Run) → IsChainOfRuns source r → (name : List ℕ) (k : ℕ) → AsksFor r.words (unrank name k) → ⊥
+asks_no_tree source r chain name k asks =
+    asks_no_other source r chain (unrank name k) asks (λ s e. differ (unrank name k) (run s) e (λ x. cc)) (λ s e. differ (unrank name k) (resume s) e (λ x. cc))
+
+sums_something : (source : List ℕ) (r : Run) → IsChainOfRuns source r → SumsNothing r → ⊥
+sums_something source r chain (inl (k, asks)) =
+    asks_no_other source r chain (make k) asks (λ s e. differ (make k) (run s) e (λ x. cc)) (λ s e. differ (make k) (resume s) e (λ x. cc))
+sums_something source r chain (inr (inl (name, text, asks))) = asks_no_number source r chain name text asks
+sums_something source r chain (inr (inr (name, k, asks))) = asks_no_tree source r chain name k asks
 
 asks_something : (source : List ℕ) (r : Run) → IsChainOfRuns source r → ((request : Request) → ¬ AsksFor r.words request) → ⊥
 asks_something source _ (begins r f) nothing = nothing (run f.sum) f.words
@@ -68,16 +83,16 @@ asks_something source _ (resumes before r text chain ends printed f) nothing = n
 problem_accepted : (source : List ℕ) (p : ProblemView) (r : Run) (n : ℕ) → Ends r n → IsChainOfRuns source r → reading source ≡ Ok p → n ≢ 3
 problem_accepted source p _ n e (begins r f) reads three =
     let w = (bytes r n e).problem_refused three in
-    let file = ap file_in (same_request r (run f.sum) (run w.sum) f.words w.words) in
-    let same = same_bytes r.files f.told f.sum.file w.sum.file source w.bytes f.files file f.file w.file in
+    let file =
+    same_file (run f.sum) w.request f.sum.file w.name (same_request r (run f.sum) w.request f.words w.words) refl
+    (file_of_problem w.request w.name w.asked) in
+    let same = same_bytes r.files f.told f.sum.file w.name source w.bytes f.files file f.file w.file in
     not_both_read w.bytes p w.error (ap reading (sym same) ∙ reads) w.refused
-  where
-    file_in : Request → List ℕ
-    file_in (run s) = s.file
-    file_in _ = []
 problem_accepted source p _ n e (resumes before r text chain ends printed f) reads three =
     let w = (bytes r n e).problem_refused three in
-    run_not_resume w.sum f.sum (same_request r (run w.sum) (resume f.sum) w.words f.words)
+    let named : problem_file_of (resume f.sum) ≡ Some w.name = ap problem_file_of (same_request r (resume f.sum) w.request f.words w.words) ∙ w.asked in
+    let wrong : ⊥ = cc in
+    wrong
 
 checkpoint_accepted : (source : List ℕ) (r : Run) (n : ℕ) → Ends r n → IsChainOfRuns source r → n ≢ 8
 checkpoint_accepted source _ n e (begins r f) eight =
@@ -110,7 +125,7 @@ alone r n e source p chain reads = record {
   where
     by_sums : IsDoneStatus n → PrintsKontsevichSums p r n
     by_sums is =
-        let s = sums r n e (makes_nothing source r chain) is in
+        let s = sums r n e (sums_something source r chain) is in
         let t = begins_truly source p r chain reads s.begun.request s.beginning s.begun.words s.begun.begins in
         subst (λ q. PrintsKontsevichSums q r n) t.same_problem (record {
           residues = s.residues;
@@ -160,6 +175,8 @@ ends_chains r n e source p chain reads = record {
     λ two. asks_something source r chain ((bytes r n e).words_refused two).words,
     problem_accepted source p r n e chain reads,
     checkpoint_accepted source r n e chain,
+    λ ten. let w = (bytes r n e).range_refused ten in asks_no_tree source r chain w.name w.number w.words,
+    λ eleven. let w = (bytes r n e).tree_refused eleven in asks_no_number source r chain w.name w.text w.words,
   );
 }
   where

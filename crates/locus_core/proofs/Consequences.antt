@@ -1,24 +1,26 @@
 -- What follows from how a run ends: which statuses there are, and when each comes. The words ask for one thing, and the
 -- files hold one file of a name, so what an end says of its request and its bytes is said of those of a clause.
 use Rattle.std.specs.List.{list_all}
-use Rattle.std.proofs.Common.{◌≡◌, ◌≢◌, ◌↔◌, ◌⊎◌, ℕ, inl, inr, ◌==◌, Bool, true, false, is_some, List, Option, Some, None, Result, Ok, IsErr, IfSome, refl, sym, ap, ◌∙◌, subst, arith, if◌then◌else◌}
+use Rattle.std.proofs.Common.{◌≡◌, ◌≢◌, ◌↔◌, ◌⊎◌, ℕ, inl, inr, ◌==◌, Bool, true, false, is_some, List, [], Option, Some, None, Result, Ok, IsErr, IsSome, IfSome, refl, sym, ap, ◌∙◌, subst, arith, if◌then◌else◌}
+use Rattle.std.proofs.lemmas.Bool.{false≢true}
+use Rattle.std.proofs.lemmas.Option.{same_Some}
 use Rattle.recover_fraction.specs.declared.recovery.Fraction.{Fraction}
 use Rattle.locus_io.specs.Content.{NamedFiles, file_of}
 use Rattle.problem.specs.Rules.{ProblemView}
-use Rattle.problem_toml.specs.Reading.{reading, reading_of_any_length}
+use Rattle.problem_toml.specs.Reading.{reading}
 use Rattle.problem_toml.specs.declared.error.ProblemError.{ProblemError}
 use Rattle.problem_toml.specs.Generator.{generated_problem}
 use Rattle.report.specs.Report.{done_status}
 use Rattle.rounds.specs.declared.progress.Outcome.{Outcome}
-use Rattle.command_line.specs.Requests.{Request, Sum, run, resume, make}
+use Rattle.command_line.specs.Requests.{Request, Sum, run, resume, make, rank, unrank}
 use Rattle.checkpoint.specs.Texts.{IsTextOf}
 use Rattle.locus_core.specs.Words.{AsksFor, AskNothing}
 use Rattle.locus_core.specs.Outside.{Change, FilesState, StopperState, Holds, TakesText}
 use Rattle.locus_core.specs.Begins.{Beginning, Begins}
-use Rattle.locus_core.specs.Comes.{Comes, summed, made, RunsRounds, IsAnswer, done, paused, no_inverse, file_of_request}
-use Rattle.locus_core.specs.Ends.{Run, Ends, printed, words_refused, problem_refused, read_fault, write_fault, checkpoint_refused, want_of_memory}
+use Rattle.locus_core.specs.Comes.{Comes, summed, made, ranked, unranked, RunsRounds, IsAnswer, done, paused, no_inverse, file_of_request, problem_file_of}
+use Rattle.locus_core.specs.Ends.{Run, Ends, printed, words_refused, problem_refused, read_fault, write_fault, checkpoint_refused, want_of_memory, range_refused, tree_refused}
 use Rattle.locus_core.specs.Headline.{IsDoneStatus, IsPrintedStatus, IsStatus, AsksOf, IsNoCheckpoint, Accepts, NeedsItsFile, Makes, MakesProblem}
-use Rattle.locus_core.proofs.Inversions.{same_request, same_bytes, same_file, run_not_resume, run_not_make, resume_not_make, begun_by_run, begun_by_resume, make_begins_nothing, not_both_states}
+use Rattle.locus_core.proofs.Inversions.{same_request, same_bytes, same_file, differ, file_of_problem, AsksText, text_begins_nothing, resume_is_sum, ReadsProblem, begun_of_problem, begun_of_file, begun_by_resume, not_both_states}
 
 -- ---- which statuses there are
 pub done_is : (found : List (Option Fraction)) → IsDoneStatus (done_status found)
@@ -33,7 +35,7 @@ answer_is b _ _ _ (done residues fractions are) = inl (done_is fractions)
 answer_is b _ _ _ (paused source next residues is) = inr (inr refl)
 answer_is b _ _ _ (no_inverse number modulus) = inr (inl refl)
 
--- what a request came to: a sum, or a text that was made
+-- what a request came to: a sum, or another text
 pub record CameBySum (files : Change FilesState) (stopper : Change StopperState) (shares : List ℕ) (request : Request) (n : ℕ) (text : List ℕ) : Type 0 where
   pub beginning : Beginning
   pub outcome : Outcome
@@ -41,22 +43,27 @@ pub record CameBySum (files : Change FilesState) (stopper : Change StopperState)
   pub sums : RunsRounds beginning stopper shares outcome
   pub answer : IsAnswer beginning outcome n text
 
-pub record CameByMake (request : Request) (n : ℕ) (text : List ℕ) : Type 0 where
-  pub number : ℕ
-  pub asked : request ≡ make number
+pub record CameByText (shares : List ℕ) (request : Request) (n : ℕ) : Type 0 where
+  pub asked : AsksText request
   pub zero : n ≡ 0
-  pub reads : reading_of_any_length text ≡ Ok (generated_problem number)
+  pub alone : shares ≡ []
 
 pub came : {files : Change FilesState} {stopper : Change StopperState} {shares : List ℕ} {request : Request} {n : ℕ} {text : List ℕ}
-    → Comes files stopper shares request n text → CameBySum files stopper shares request n text ⊎ CameByMake request n text
+    → Comes files stopper shares request n text → CameBySum files stopper shares request n text ⊎ CameByText shares request n
 came (summed request b outcome n text begins sums answer) =
     inl (record { beginning = b; outcome = outcome; begins = begins; sums = sums; answer = answer })
-came (made number text reads none still) = inr (record { number = number; asked = refl; zero = refl; reads = reads })
+came (made number text reads none still) = inr (record { asked = inl (number, refl); zero = refl; alone = none })
+came (ranked name text p g file decorated has none still) =
+    inr (record { asked = inr (inl (name, text, refl)); zero = refl; alone = none })
+came (unranked name p number file below none still) =
+    inr (record { asked = inr (inr (name, number, refl)); zero = refl; alone = none })
 
 pub came_printed : {files : Change FilesState} {stopper : Change StopperState} {shares : List ℕ} {request : Request} {n : ℕ} {text : List ℕ}
     → Comes files stopper shares request n text → IsPrintedStatus n
 came_printed (summed request b outcome n text begins sums answer) = answer_is b outcome n text answer
 came_printed (made number text reads none still) = inl (inl refl)
+came_printed (ranked name text p g file decorated has none still) = inl (inl refl)
+came_printed (unranked name p number file below none still) = inl (inl refl)
 
 -- 1 for the statuses at which a whole text is printed
 abbrev printed_code : ℕ → ℕ
@@ -78,7 +85,9 @@ known r n (problem_refused is e) = inr (inr (inl is))
 known r n (read_fault is e) = inr (inr (inr (inl is)))
 known r n (write_fault is e) = inr (inr (inr (inr (inl is))))
 known r n (checkpoint_refused is e) = inr (inr (inr (inr (inr (inl is)))))
-known r n (want_of_memory is e) = inr (inr (inr (inr (inr (inr is)))))
+known r n (want_of_memory is e) = inr (inr (inr (inr (inr (inr (inl is))))))
+known r n (range_refused is e) = inr (inr (inr (inr (inr (inr (inr (inl is)))))))
+known r n (tree_refused is e) = inr (inr (inr (inr (inr (inr (inr (inr is)))))))
 
 -- ---- the words
 pub words : (r : Run) (n : ℕ) → Ends r n → (n ≡ 2) ↔ AskNothing r.words
@@ -92,15 +101,19 @@ words r n e = (λ is. asks_nothing e is, λ none. is_two e none)
     asks_nothing (write_fault seven e) is = absurd (omega (arith, seven, is))
     asks_nothing (checkpoint_refused eight e) is = absurd (omega (arith, eight, is))
     asks_nothing (want_of_memory nine e) is = absurd (omega (arith, nine, is))
+    asks_nothing (range_refused ten e) is = absurd (omega (arith, ten, is))
+    asks_nothing (tree_refused eleven e) is = absurd (omega (arith, eleven, is))
 
     is_two : Ends r n → AskNothing r.words → n ≡ 2
     is_two (printed p) none = absurd (none p.request p.words)
     is_two (words_refused is e) none = is
-    is_two (problem_refused is e) none = absurd (none (run e.sum) e.words)
+    is_two (problem_refused is e) none = absurd (none e.request e.words)
     is_two (read_fault is e) none = absurd (none e.request e.words)
     is_two (write_fault is e) none = absurd (none e.request e.words)
     is_two (checkpoint_refused is e) none = absurd (none (resume e.sum) e.words)
     is_two (want_of_memory is e) none = absurd (none e.request e.words)
+    is_two (range_refused is e) none = absurd (none (unrank e.name e.number) e.words)
+    is_two (tree_refused is e) none = absurd (none (rank e.name e.text) e.words)
 
 -- ---- what the bytes of a file decide
 -- what holds for files that tell what they hold
@@ -108,52 +121,93 @@ pub if_told : (c : Option NamedFiles) (P : NamedFiles → Type 0) → ((told : N
 if_told None P f = tt
 if_told (Some told) P f = f told refl
 
--- a sum that came of the file of a `run`: its bytes write a problem
-pub run_reads : (r : Run) (told : NamedFiles) (s : Sum) (bytes : List ℕ) {request : Request} {n : ℕ} {text : List ℕ} → r.files.before.content ≡ Some told
-    → AsksOf r told (run s) bytes → request ≡ run s → Comes r.files r.stopper r.shares request n text → (p : ProblemView) × (reading bytes ≡ Ok p)
-run_reads r told s bytes {request} {n} {text} is asks same comes = by (came comes)
-  where
-    by : CameBySum r.files r.stopper r.shares request n text ⊎ CameByMake request n text → (p : ProblemView) × (reading bytes ≡ Ok p)
-    by (inl c) =
-        let h = begun_by_run r.files request s c.beginning c.begins same in
-        let name = same_file (run s) (run s) asks.name s.file refl asks.asked refl in
-        let b = same_bytes r.files told asks.name s.file bytes h.bytes is name asks.file h.file in
-        (h.problem, ap reading b ∙ h.reads)
-    by (inr c) = absurd (run_not_make s c.number (sym same ∙ c.asked))
+-- what came of a problem that was asked for: its file writes one
+pub came_of_problem : {files : Change FilesState} {stopper : Change StopperState} {shares : List ℕ} {request : Request} {n : ℕ} {text : List ℕ} (name : List ℕ)
+    → Comes files stopper shares request n text → problem_file_of request ≡ Some name → ReadsProblem files name
+came_of_problem {files} name (summed request b outcome n text begins sums answer) e = begun_of_problem files request b name begins e
+came_of_problem name (made number text reads none still) e = absurd (let f : ⊥ = cc in f)
+came_of_problem {files} name (ranked file text p g h decorated has none still) e =
+    subst (ReadsProblem files) (same_Some file name e) (record { bytes = h.bytes; problem = p; file = h.file; reads = h.reads })
+came_of_problem {files} name (unranked file p number h below none still) e =
+    subst (ReadsProblem files) (same_Some file name e) (record { bytes = h.bytes; problem = p; file = h.file; reads = h.reads })
 
-is_no_error : (r : Result ProblemView ProblemError) → (p : ProblemView) → r ≡ Ok p → IsErr r → ⊥
+pub is_no_error : (r : Result ProblemView ProblemError) (p : ProblemView) → r ≡ Ok p → IsErr r → ⊥
 is_no_error r p e err = let f = subst IsErr e err in cc
 
-pub accepts_run : (r : Run) (n : ℕ) → Ends r n → (told : NamedFiles) → r.files.before.content ≡ Some told → (s : Sum) (bytes : List ℕ) → n ≢ 6 → n ≢ 9
-    → AsksOf r told (run s) bytes → (n ≡ 3) ↔ IsErr (reading bytes)
-accepts_run r n (printed p) told is s bytes six nine asks =
-    let (problem, reads) = run_reads r told s bytes is asks (same_request r p.request (run s) p.words asks.words) p.comes in
-    (λ three. absurd (never n 3 (came_printed p.comes) three refl), λ err. absurd (is_no_error (reading bytes) problem reads err))
-accepts_run r n (write_fault seven w) told is s bytes six nine asks =
-    let (problem, reads) = run_reads r told s bytes is asks (same_request r w.request (run s) w.words asks.words) w.comes in
-    (λ three. absurd (omega (arith, three, seven)), λ err. absurd (is_no_error (reading bytes) problem reads err))
-accepts_run r n (words_refused two w) told is s bytes six nine asks = absurd (w.words (run s) asks.words)
-accepts_run r n (read_fault fault w) told is s bytes six nine asks = absurd (six fault)
-accepts_run r n (want_of_memory memory w) told is s bytes six nine asks = absurd (nine memory)
-accepts_run r n (checkpoint_refused eight w) told is s bytes six nine asks =
-    absurd (run_not_resume s w.sum (same_request r (run s) (resume w.sum) asks.words w.words))
-accepts_run r n (problem_refused three w) told is s bytes six nine asks =
-    let name = same_file (run s) (run w.sum) asks.name w.sum.file (same_request r (run s) (run w.sum) asks.words w.words) asks.asked refl in
-    let b = same_bytes r.files told asks.name w.sum.file bytes w.bytes is name asks.file w.file in
-    (λ _. subst IsErr (sym (ap reading b ∙ w.refused)) refl, λ _. three)
+-- a problem is asked for by a name
+problem_named : (request : Request) (name : List ℕ) → IsSome (problem_file_of request) → file_of_request request ≡ Some name
+    → problem_file_of request ≡ Some name
+problem_named request name some asked = by_file (problem_file_of request) refl some
+  where
+    by_file : (o : Option (List ℕ)) → problem_file_of request ≡ o → IsSome o → problem_file_of request ≡ Some name
+    by_file None e is = absurd (false≢true is)
+    by_file (Some other) e is =
+        e ∙ ap Some (same_Some other name (sym (file_of_problem request other e) ∙ asked))
+
+-- the bytes that are told are those that were read as a problem
+told_reads : (r : Run) (told : NamedFiles) (request : Request) (bytes : List ℕ) → r.files.before.content ≡ Some told → AsksOf r told request bytes
+    → (name : List ℕ) → problem_file_of request ≡ Some name → ReadsProblem r.files name → (p : ProblemView) × (reading bytes ≡ Ok p)
+told_reads r told request bytes is asks name named h =
+    let same = same_file request request asks.name name refl asks.asked (file_of_problem request name named) in
+    let b = same_bytes r.files told asks.name name bytes h.bytes is same asks.file h.file in
+    (h.problem, ap reading b ∙ h.reads)
+
+not_refused : (n : ℕ) (bytes : List ℕ) → (p : ProblemView) × (reading bytes ≡ Ok p) → n ≢ 3 → (n ≡ 3) ↔ IsErr (reading bytes)
+not_refused n bytes (p, reads) other = (λ three. absurd (other three), λ err. absurd (is_no_error (reading bytes) p reads err))
+
+pub accepts_problem : (r : Run) (n : ℕ) → Ends r n → (told : NamedFiles) → r.files.before.content ≡ Some told → (request : Request) (bytes : List ℕ)
+    → n ≢ 6 → n ≢ 9 → IsSome (problem_file_of request) → AsksOf r told request bytes → (n ≡ 3) ↔ IsErr (reading bytes)
+accepts_problem r n e told is request bytes six nine some asks = by_end e
+  where
+    named : problem_file_of request ≡ Some asks.name
+    named = problem_named request asks.name some asks.asked
+
+    read_by : (other : Request) → other ≡ request → (problem_file_of other ≡ Some asks.name → ReadsProblem r.files asks.name) → n ≢ 3
+        → (n ≡ 3) ↔ IsErr (reading bytes)
+    read_by other same h = not_refused n bytes (told_reads r told request bytes is asks asks.name named (h (ap problem_file_of same ∙ named)))
+
+    by_end : Ends r n → (n ≡ 3) ↔ IsErr (reading bytes)
+    by_end (printed p) =
+        read_by p.request (same_request r p.request request p.words asks.words) (came_of_problem asks.name p.comes)
+        (λ three. never n 3 (came_printed p.comes) three refl)
+    by_end (write_fault seven w) =
+        read_by w.request (same_request r w.request request w.words asks.words) (came_of_problem asks.name w.comes)
+        (λ three. omega (arith, three, seven))
+    by_end (words_refused two w) = absurd (w.words request asks.words)
+    by_end (read_fault fault w) = absurd (six fault)
+    by_end (want_of_memory memory w) = absurd (nine memory)
+    by_end (checkpoint_refused eight w) =
+        let none : problem_file_of (resume w.sum) ≡ Some asks.name = ap problem_file_of (same_request r (resume w.sum) request w.words asks.words) ∙ named in
+        absurd (let f : ⊥ = cc in f)
+    by_end (range_refused ten w) =
+        read_by (unrank w.name w.number) (same_request r (unrank w.name w.number) request w.words asks.words)
+        (λ e. subst (ReadsProblem r.files) (same_Some w.name asks.name e)
+        (record { bytes = w.file.bytes; problem = w.problem; file = w.file.file; reads = w.file.reads }))
+        (λ three. omega (arith, three, ten))
+    by_end (tree_refused eleven w) =
+        read_by (rank w.name w.text) (same_request r (rank w.name w.text) request w.words asks.words)
+        (λ e. subst (ReadsProblem r.files) (same_Some w.name asks.name e)
+        (record { bytes = w.file.bytes; problem = w.problem; file = w.file.file; reads = w.file.reads }))
+        (λ three. omega (arith, three, eleven))
+    by_end (problem_refused three w) =
+        let name =
+        same_file request w.request asks.name w.name (same_request r request w.request asks.words w.words) asks.asked
+        (file_of_problem w.request w.name w.asked) in
+        let b = same_bytes r.files told asks.name w.name bytes w.bytes is name asks.file w.file in
+        (λ _. subst IsErr (sym (ap reading b ∙ w.refused)) refl, λ _. three)
 
 -- a sum that came of the file of a `resume`: its bytes are the text of a state
 resume_reads : (r : Run) (told : NamedFiles) (s : Sum) (bytes : List ℕ) {request : Request} {n : ℕ} {text : List ℕ} → r.files.before.content ≡ Some told
     → AsksOf r told (resume s) bytes → request ≡ resume s → Comes r.files r.stopper r.shares request n text → IsNoCheckpoint bytes → ⊥
 resume_reads r told s bytes {request} {n} {text} is asks same comes none = by (came comes)
   where
-    by : CameBySum r.files r.stopper r.shares request n text ⊎ CameByMake request n text → ⊥
+    by : CameBySum r.files r.stopper r.shares request n text ⊎ CameByText r.shares request n → ⊥
     by (inl c) =
         let h = begun_by_resume r.files request s c.beginning c.begins same in
         let name = same_file (resume s) (resume s) asks.name s.file refl asks.asked refl in
         let b = same_bytes r.files told asks.name s.file bytes h.bytes is name asks.file h.file in
         none h.state h.is_state (subst (IsTextOf h.state) (sym b) h.text)
-    by (inr c) = resume_not_make s c.number (sym same ∙ c.asked)
+    by (inr c) = resume_is_sum s (subst AsksText same c.asked)
 
 accepts_resume : (r : Run) (n : ℕ) → Ends r n → (told : NamedFiles) → r.files.before.content ≡ Some told → (s : Sum) (bytes : List ℕ) → n ≢ 6 → n ≢ 9
     → AsksOf r told (resume s) bytes → (n ≡ 8) ↔ IsNoCheckpoint bytes
@@ -167,17 +221,32 @@ accepts_resume r n (words_refused two w) told is s bytes six nine asks = absurd 
 accepts_resume r n (read_fault fault w) told is s bytes six nine asks = absurd (six fault)
 accepts_resume r n (want_of_memory memory w) told is s bytes six nine asks = absurd (nine memory)
 accepts_resume r n (problem_refused three w) told is s bytes six nine asks =
-    absurd (run_not_resume w.sum s (same_request r (run w.sum) (resume s) w.words asks.words))
+    let named : problem_file_of (resume s) ≡ Some w.name = ap problem_file_of (same_request r (resume s) w.request asks.words w.words) ∙ w.asked in
+    absurd (let f : ⊥ = cc in f)
+accepts_resume r n (range_refused ten w) told is s bytes six nine asks =
+    absurd (differ (unrank w.name w.number) (resume s) (same_request r (unrank w.name w.number) (resume s) w.words asks.words) (λ x. cc))
+accepts_resume r n (tree_refused eleven w) told is s bytes six nine asks =
+    absurd (differ (rank w.name w.text) (resume s) (same_request r (rank w.name w.text) (resume s) w.words asks.words) (λ x. cc))
 accepts_resume r n (checkpoint_refused eight w) told is s bytes six nine asks =
     let name = same_file (resume s) (resume w.sum) asks.name w.sum.file (same_request r (resume s) (resume w.sum) asks.words w.words) asks.asked refl in
     let b = same_bytes r.files told asks.name w.sum.file bytes w.bytes is name asks.file w.file in
     (λ _. λ state is_state of. not_both_states w.bytes state w.error is_state (subst (IsTextOf state) b of) w.refused, λ _. eight)
 
 pub accepted : (r : Run) (n : ℕ) → Ends r n → Accepts r n
-accepted r n e = if_told r.files.before.content _ (λ told is s bytes six nine.
-    (λ asks. accepts_run r n e told is s bytes six nine asks, λ asks. accepts_resume r n e told is s bytes six nine asks))
+accepted r n e = if_told r.files.before.content _ (λ told is request s bytes six nine.
+    (λ some asks. accepts_problem r n e told is request bytes six nine some asks, λ asks. accepts_resume r n e told is s bytes six nine asks))
 
 -- ---- a file that is not there
+-- what came of a file that was asked for
+came_of_file : {files : Change FilesState} {stopper : Change StopperState} {shares : List ℕ} {request : Request} {n : ℕ} {text : List ℕ} (name : List ℕ)
+    → Comes files stopper shares request n text → file_of_request request ≡ Some name → (bytes : List ℕ) × Holds files name bytes
+came_of_file {files} name (summed request b outcome n text begins sums answer) e = begun_of_file files request b name begins e
+came_of_file name (made number text reads none still) e = absurd (let f : ⊥ = cc in f)
+came_of_file {files} name (ranked file text p g h decorated has none still) e =
+    (h.bytes, subst (λ x. Holds files x h.bytes) (same_Some file name e) h.file)
+came_of_file {files} name (unranked file p number h below none still) e =
+    (h.bytes, subst (λ x. Holds files x h.bytes) (same_Some file name e) h.file)
+
 pub absent : (r : Run) (n : ℕ) → Ends r n → NeedsItsFile r n
 absent r n e = if_told r.files.before.content _ (λ told is request name asks named none. by_end told is request name asks named none e)
   where
@@ -191,19 +260,8 @@ absent r n e = if_told r.files.before.content _ (λ told is request name asks na
     by_comes : (told : NamedFiles) (request : Request) (name : List ℕ) {asked : Request} {m : ℕ} {text : List ℕ} → r.files.before.content ≡ Some told
         → asked ≡ request → file_of_request request ≡ Some name → file_of name told ≡ None
         → Comes r.files r.stopper r.shares asked m text → (n ≡ 6) ⊎ (n ≡ 9)
-    by_comes told request name {asked} {m} {text} is same named none comes = by_begun request same named (came comes)
-      where
-        by_begun : (request : Request) → asked ≡ request → file_of_request request ≡ Some name
-            → CameBySum r.files r.stopper r.shares asked m text ⊎ CameByMake asked m text → (n ≡ 6) ⊎ (n ≡ 9)
-        by_begun (run s) same named (inl c) =
-            let h = begun_by_run r.files asked s c.beginning c.begins same in
-            not_there told name s.file h.bytes is none (same_file (run s) (run s) name s.file refl named refl) h.file
-        by_begun (resume s) same named (inl c) =
-            let h = begun_by_resume r.files asked s c.beginning c.begins same in
-            not_there told name s.file h.bytes is none (same_file (resume s) (resume s) name s.file refl named refl) h.file
-        by_begun request same named (inr c) =
-            let wrong : file_of_request (make c.number) ≡ Some name = ap file_of_request (sym c.asked ∙ same) ∙ named in absurd (let x : ⊥ = cc in x)
-        by_begun _ same named (inl c) = absurd (let x : ⊥ = cc in x)
+    by_comes told request name is same named none comes =
+        let (bytes, held) = came_of_file name comes (ap file_of_request same ∙ named) in not_there told name name bytes is none refl held
 
     by_end : (told : NamedFiles) → r.files.before.content ≡ Some told → (request : Request) (name : List ℕ) → AsksFor r.words request
         → file_of_request request ≡ Some name → file_of name told ≡ None → Ends r n → (n ≡ 6) ⊎ (n ≡ 9)
@@ -215,33 +273,48 @@ absent r n e = if_told r.files.before.content _ (λ told is request name asks na
     by_end told is request name asks named none (read_fault six w) = inl six
     by_end told is request name asks named none (want_of_memory nine w) = inr nine
     by_end told is request name asks named none (problem_refused three w) =
-        not_there told name w.sum.file w.bytes is none
-        (same_file request (run w.sum) name w.sum.file (same_request r request (run w.sum) asks w.words) named refl) w.file
+        not_there told name w.name w.bytes is none
+        (same_file request w.request name w.name (same_request r request w.request asks w.words) named (file_of_problem w.request w.name w.asked)) w.file
+    by_end told is request name asks named none (range_refused ten w) =
+        not_there told name w.name w.file.bytes is none
+        (same_file request (unrank w.name w.number) name w.name (same_request r request (unrank w.name w.number) asks w.words) named refl) w.file.file
+    by_end told is request name asks named none (tree_refused eleven w) =
+        not_there told name w.name w.file.bytes is none
+        (same_file request (rank w.name w.text) name w.name (same_request r request (rank w.name w.text) asks w.words) named refl) w.file.file
     by_end told is request name asks named none (checkpoint_refused eight w) =
         not_there told name w.sum.file w.bytes is none
         (same_file request (resume w.sum) name w.sum.file (same_request r request (resume w.sum) asks w.words) named refl) w.file
 
 -- ---- make
 pub makes : (r : Run) (n : ℕ) → Ends r n → MakesProblem r n
-makes r n (printed p) number asks =
-    inl (by p.text (same_request r p.request (make number) p.words asks) (came p.comes) p.out)
+makes r n (printed p) number asks = inl (by (same_request r p.request (make number) p.words asks) p.comes p.out)
   where
-    by : {request : Request} {m : ℕ} (text : List ℕ) → request ≡ make number → CameBySum r.files r.stopper r.shares request m text ⊎ CameByMake request m text
-        → TakesText r.out text → (m ≡ 0) × Makes r number
-    by text same (inr c) out =
-        (c.zero, record { text = text; reads = c.reads ∙ ap (λ k. Ok (generated_problem k)) (same_number c.number number (sym c.asked ∙ same)); out = out })
-      where
-        number_in : Request → ℕ
-        number_in (make k) = k
-        number_in _ = 0
+    number_in : Request → ℕ
+    number_in (make k) = k
+    number_in _ = 0
 
-        same_number : (x y : ℕ) → make x ≡ make y → x ≡ y
-        same_number x y e = ap number_in e
-    by text same (inl c) out = absurd (make_begins_nothing r.files _ number c.beginning c.begins same)
+    same_number : (x y : ℕ) → make x ≡ make y → x ≡ y
+    same_number x y e = ap number_in e
+
+    by : {request : Request} {m : ℕ} {text : List ℕ} → request ≡ make number → Comes r.files r.stopper r.shares request m text → TakesText r.out text
+        → (m ≡ 0) × Makes r number
+    by same (made k text reads none still) out =
+        (refl, record { text = text; reads = reads ∙ ap (λ k. Ok (generated_problem k)) (same_number k number same); out = out })
+    by same (summed request b outcome m text begins sums answer) out =
+        absurd (text_begins_nothing r.files request b begins (inl (number, same)))
+    by same (ranked name text p g file decorated has none still) out = absurd (differ (rank name text) (make number) same (λ x. cc))
+    by same (unranked name p k file below none still) out = absurd (differ (unrank name k) (make number) same (λ x. cc))
 makes r n (write_fault is w) number asks = inr (inl (is, w.out.fault))
 makes r n (words_refused is w) number asks = absurd (w.words (make number) asks)
-makes r n (problem_refused is w) number asks = absurd (run_not_make w.sum number (same_request r (run w.sum) (make number) w.words asks))
-makes r n (checkpoint_refused is w) number asks = absurd (resume_not_make w.sum number (same_request r (resume w.sum) (make number) w.words asks))
+makes r n (problem_refused is w) number asks =
+    let named : problem_file_of (make number) ≡ Some w.name = ap problem_file_of (same_request r (make number) w.request asks w.words) ∙ w.asked in
+    absurd (let x : ⊥ = cc in x)
+makes r n (checkpoint_refused is w) number asks =
+    absurd (differ (resume w.sum) (make number) (same_request r (resume w.sum) (make number) w.words asks) (λ x. cc))
+makes r n (range_refused is w) number asks =
+    absurd (differ (unrank w.name w.number) (make number) (same_request r (unrank w.name w.number) (make number) w.words asks) (λ x. cc))
+makes r n (tree_refused is w) number asks =
+    absurd (differ (rank w.name w.text) (make number) (same_request r (rank w.name w.text) (make number) w.words asks) (λ x. cc))
 makes r n (read_fault is w) number asks =
     let named : file_of_request (make number) ≡ Some w.name = ap file_of_request (sym (same_request r w.request (make number) w.words asks)) ∙ w.asked in
     absurd (let x : ⊥ = cc in x)

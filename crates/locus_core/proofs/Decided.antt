@@ -15,15 +15,15 @@ use Rattle.checkpoint.specs.Texts.{IsTextOf}
 use Rattle.rounds.specs.Rounds.{budget_end, reached}
 use Rattle.rounds.specs.Outcomes.{SumView, IsDone, IsPaused, IsNoInverse, IsTrueSum}
 use Rattle.rounds.specs.declared.progress.Outcome.{Outcome}
-use Rattle.command_line.specs.Requests.{Request, Sum, run, resume}
+use Rattle.command_line.specs.Requests.{Request, resume, rank, unrank}
 use Rattle.locus_core.specs.Outside.{Change, StopperState, HasStopped}
 use Rattle.locus_core.specs.Begins.{Beginning, Begins, IsTrueBeginning}
-use Rattle.locus_core.specs.Comes.{RunsRounds, IsAnswer, done, paused, no_inverse, file_of_request}
-use Rattle.locus_core.specs.Ends.{Run, Ends, printed, words_refused, problem_refused, read_fault, write_fault, checkpoint_refused, want_of_memory}
+use Rattle.locus_core.specs.Comes.{RunsRounds, IsAnswer, done, paused, no_inverse, file_of_request, problem_file_of}
+use Rattle.locus_core.specs.Ends.{Run, Ends, printed, words_refused, problem_refused, read_fault, write_fault, checkpoint_refused, want_of_memory, range_refused, tree_refused}
 use Rattle.locus_core.specs.Headline.{IsDoneStatus, NamesBadTrees, end_of, IsStatusOf, IsDecided}
 use Rattle.locus_core.proofs.TrueSums.{none_bad_before, true_at}
-use Rattle.locus_core.proofs.Inversions.{same_request, same_bytes, told_bytes, begun_by_run, begun_by_resume, make_begins_nothing, not_both_read, not_both_states, same_beginning}
-use Rattle.locus_core.proofs.Consequences.{done_is, came, CameBySum, CameByMake}
+use Rattle.locus_core.proofs.Inversions.{same_request, same_bytes, told_bytes, file_of_problem, AsksText, text_begins_nothing, begun_of_problem, begun_by_resume, not_both_read, not_both_states, same_beginning}
+use Rattle.locus_core.proofs.Consequences.{done_is, came, CameBySum, CameByText}
 
 pub small_degree : (p : ProblemView) → KeepsRules p → p.shape.degree < 11
 small_degree p rules = let l = limits p.shape.rank p.shape.degree p.shape.marks rules.shape in let m = l.most_degree in omega (arith, m)
@@ -75,13 +75,13 @@ no_sum_status n m (inr e) is a b c = c (sym is ∙ e)
 pub bad : (r : Run) (n : ℕ) → Ends r n → NamesBadTrees r n
 bad r n e status request b asks knows begins truth = by_end e
   where
-    by_came : {asked : Request} {text : List ℕ} → asked ≡ request → CameBySum r.files r.stopper r.shares asked n text ⊎ CameByMake asked n text
+    by_came : {asked : Request} {text : List ℕ} → asked ≡ request → CameBySum r.files r.stopper r.shares asked n text ⊎ CameByText r.shares asked n
         → (n ≡ 4) ↔ HasBadTree b.sum.problem
     by_came same (inl c) =
         let one = same_beginning r.files request c.beginning b knows (subst (λ x. Begins r.files x c.beginning) same c.begins) begins in
         subst (λ x. (n ≡ 4) ↔ HasBadTree x.sum.problem) one
         (four_is c.beginning r.stopper r.shares c.outcome n _ c.sums c.answer (subst IsTrueBeginning (sym one) truth) status)
-    by_came same (inr c) = absurd (make_begins_nothing r.files request c.number b begins (sym same ∙ c.asked))
+    by_came same (inr c) = absurd (text_begins_nothing r.files request b begins (subst AsksText same c.asked))
 
     by_end : Ends r n → (n ≡ 4) ↔ HasBadTree b.sum.problem
     by_end (printed w) = by_came (same_request r w.request request w.words asks) (came w.comes)
@@ -91,6 +91,8 @@ bad r n e status request b asks knows begins truth = by_end e
     by_end (write_fault e w) = absurd (no_sum_status n 7 status e (λ x. cc) (λ x. cc) (λ x. cc))
     by_end (checkpoint_refused e w) = absurd (no_sum_status n 8 status e (λ x. cc) (λ x. cc) (λ x. cc))
     by_end (want_of_memory e w) = absurd (no_sum_status n 9 status e (λ x. cc) (λ x. cc) (λ x. cc))
+    by_end (range_refused e w) = absurd (no_sum_status n 10 status e (λ x. cc) (λ x. cc) (λ x. cc))
+    by_end (tree_refused e w) = absurd (no_sum_status n 11 status e (λ x. cc) (λ x. cc) (λ x. cc))
 
 -- ---- the status of a sum that nobody stops
 stopped_rose : (stopper : Change StopperState) (o : Option (List ℕ)) → IsSome o × IfSome o (λ name. HasStopped stopper name)
@@ -133,23 +135,22 @@ answered b stopper shares _ _ _ sums (paused source next residues source_is) sti
 pub decided : (r : Run) (n : ℕ) → Ends r n → IsDecided r n
 decided r n e served taken still request b asks knows begins = by_end e
   where
-    by_came : {asked : Request} {text : List ℕ} → asked ≡ request → CameBySum r.files r.stopper r.shares asked n text ⊎ CameByMake asked n text
+    by_came : {asked : Request} {text : List ℕ} → asked ≡ request → CameBySum r.files r.stopper r.shares asked n text ⊎ CameByText r.shares asked n
         → IsStatusOf b n ⊎ (n ≡ 9)
     by_came same (inl c) =
         let one = same_beginning r.files request c.beginning b knows (subst (λ x. Begins r.files x c.beginning) same c.begins) begins in
         inl (subst (λ x. IsStatusOf x n) one (answered c.beginning r.stopper r.shares c.outcome n _ c.sums c.answer still))
-    by_came same (inr c) = absurd (make_begins_nothing r.files request c.number b begins (sym same ∙ c.asked))
+    by_came same (inr c) = absurd (text_begins_nothing r.files request b begins (subst AsksText same c.asked))
 
-    told : IsSome r.files.before.content ⊎ (file_of_request request ≡ None) → {s : Sum} → request ≡ run s ⊎ request ≡ resume s
+    told : IsSome r.files.before.content ⊎ (file_of_request request ≡ None) → (name : List ℕ) → file_of_request request ≡ Some name
         → (content : NamedFiles) × (r.files.before.content ≡ Some content)
-    told known is = by_content r.files.before.content refl known is
+    told known name named = by_content r.files.before.content refl known
       where
         by_content : (c : Option NamedFiles) → r.files.before.content ≡ c → IsSome c ⊎ (file_of_request request ≡ None)
-            → {s : Sum} → request ≡ run s ⊎ request ≡ resume s → (content : NamedFiles) × (c ≡ Some content)
-        by_content (Some content) e known is = (content, refl)
-        by_content None e (inl some) is = absurd (false≢true some)
-        by_content None e (inr none) (inl is) = let w = sym (ap file_of_request is) ∙ none in absurd (let f : ⊥ = cc in f)
-        by_content None e (inr none) (inr is) = let w = sym (ap file_of_request is) ∙ none in absurd (let f : ⊥ = cc in f)
+            → (content : NamedFiles) × (c ≡ Some content)
+        by_content (Some content) e known = (content, refl)
+        by_content None e (inl some) = absurd (false≢true some)
+        by_content None e (inr none) = let wrong = sym none ∙ named in absurd (let f : ⊥ = cc in f)
 
     by_end : Ends r n → IsStatusOf b n ⊎ (n ≡ 9)
     by_end (printed w) = by_came (same_request r w.request request w.words asks) (came w.comes)
@@ -157,15 +158,22 @@ decided r n e served taken still request b asks knows begins = by_end e
     by_end (read_fault six w) = absurd (served w.files.fault.rose)
     by_end (write_fault seven w) = absurd (taken w.out.fault)
     by_end (want_of_memory nine w) = inr nine
+    by_end (range_refused ten w) =
+        absurd (text_begins_nothing r.files request b begins
+        (inr (inr (w.name, w.number, same_request r request (unrank w.name w.number) asks w.words))))
+    by_end (tree_refused eleven w) =
+        absurd (text_begins_nothing r.files request b begins
+        (inr (inl (w.name, w.text, same_request r request (rank w.name w.text) asks w.words))))
     by_end (problem_refused three w) =
-        let same = same_request r request (run w.sum) asks w.words in
-        let (content, is) = told knows (inl same) in
-        let h = begun_by_run r.files request w.sum b begins same in
-        let bytes = same_bytes r.files content w.sum.file w.sum.file h.bytes w.bytes is refl (told_bytes r.files content w.sum.file h.bytes is h.file) w.file in
+        let same = same_request r request w.request asks w.words in
+        let named : problem_file_of request ≡ Some w.name = ap problem_file_of same ∙ w.asked in
+        let (content, is) = told knows w.name (file_of_problem request w.name named) in
+        let h = begun_of_problem r.files request b w.name begins named in
+        let bytes = same_bytes r.files content w.name w.name h.bytes w.bytes is refl (told_bytes r.files content w.name h.bytes is h.file) w.file in
         absurd (not_both_read h.bytes h.problem w.error h.reads (ap reading bytes ∙ w.refused))
     by_end (checkpoint_refused eight w) =
         let same = same_request r request (resume w.sum) asks w.words in
-        let (content, is) = told knows (inr same) in
+        let (content, is) = told knows w.sum.file (ap file_of_request same) in
         let h = begun_by_resume r.files request w.sum b begins same in
         let bytes = same_bytes r.files content w.sum.file w.sum.file h.bytes w.bytes is refl (told_bytes r.files content w.sum.file h.bytes is h.file) w.file in
         absurd (not_both_states w.bytes h.state w.error h.is_state (subst (IsTextOf h.state) bytes h.text) w.refused)

@@ -3,8 +3,10 @@ use Rattle.std.proofs.Common.{◌≡◌, ℕ, List, [], Result, Ok, Err, IfOk, I
 use Rattle.command_line.specs.Requests.{Request}
 use Rattle.lists.specs.declared.memory.NoMemory.{NoMemory}
 use Rattle.problem_toml.specs.declared.error.ProblemError.{ProblemError}
+use Rattle.tree_text.specs.declared.error.TreeTextError.{TreeTextError}
+use Rattle.problem.specs.Sums.{count_of}
 use Rattle.checkpoint.specs.declared.error.CheckpointError.{CheckpointError}
-use Rattle.locus_core.specs.Texts.{refused_line, refused_checkpoint_line}
+use Rattle.locus_core.specs.Texts.{refused_line, refused_checkpoint_line, refused_tree_line, refused_range_line}
 use Rattle.locus_core.specs.declared.work.Refusal.TheVariants as refusal
 use Rattle.locus_core.specs.Words.{AsksFor}
 use Rattle.locus_core.specs.Outside.{Unchanged, Sends, Change, SinkState}
@@ -50,19 +52,21 @@ refused_ends run request _ answer asks (steps.read_fault name named fault still)
       idle = record { out = out; stopper = still; shares = none };
       err = err;
     })
-refused_ends run request _ answer asks (steps.problem s bytes reason same file refused kept still) out none (steps.problem error is err) =
+refused_ends run request _ answer asks (steps.problem name bytes reason asked file refused kept still) out none (steps.problem error is err) =
     ends.problem_refused is (record {
-      sum = s;
+      request = request;
+      name = name;
       bytes = bytes;
       error = reason;
-      words = subst (AsksFor run.words) same asks;
+      words = asks;
+      asked = asked;
       file = file;
       refused = refused;
       files = kept;
       idle = record { out = out; stopper = still; shares = none };
       err = err;
     })
-refused_ends run request _ answer asks (steps.problem s bytes reason same file refused kept still) out none (steps.unheard_problem error is err) =
+refused_ends run request _ answer asks (steps.problem name bytes reason asked file refused kept still) out none (steps.unheard_problem error is err) =
     ends.want_of_memory is (record { request = request; words = asks; files = kept; stopper = inl still; out = out; shares = none; err = err })
 refused_ends run request _ answer asks (steps.checkpoint s bytes reason same file refused kept still) out none (steps.checkpoint error is err) =
     ends.checkpoint_refused is (record {
@@ -77,6 +81,35 @@ refused_ends run request _ answer asks (steps.checkpoint s bytes reason same fil
       err = err;
     })
 refused_ends run request _ answer asks (steps.checkpoint s bytes reason same file refused kept still) out none (steps.unheard_checkpoint error is err) =
+    ends.want_of_memory is (record { request = request; words = asks; files = kept; stopper = inl still; out = out; shares = none; err = err })
+refused_ends run request _ answer asks (steps.tree name text p reason same file refused kept still) out none (steps.tree error is err) =
+    ends.tree_refused is (record {
+      name = name;
+      text = text;
+      problem = p;
+      error = reason;
+      words = subst (AsksFor run.words) same asks;
+      file = file;
+      refused = refused;
+      files = kept;
+      idle = record { out = out; stopper = still; shares = none };
+      err = err;
+    })
+refused_ends run request _ answer asks (steps.tree name text p reason same file refused kept still) out none (steps.unheard_tree error is err) =
+    ends.want_of_memory is (record { request = request; words = asks; files = kept; stopper = inl still; out = out; shares = none; err = err })
+refused_ends run request _ answer asks (steps.range name number p same file above kept still) out none (steps.range count is err) =
+    ends.range_refused is (record {
+      name = name;
+      number = number;
+      problem = p;
+      words = subst (AsksFor run.words) same asks;
+      file = file;
+      above = above;
+      files = kept;
+      idle = record { out = out; stopper = still; shares = none };
+      err = err;
+    })
+refused_ends run request _ answer asks (steps.range name number p same file above kept still) out none (steps.unheard_range count is err) =
     ends.want_of_memory is (record { request = request; words = asks; files = kept; stopper = inl still; out = out; shares = none; err = err })
 refused_ends run request _ answer asks (steps.no_memory kept stopped) out none (steps.no_memory is err) =
     ends.want_of_memory is (record { request = request; words = asks; files = kept; stopper = stopped; out = out; shares = none; err = err })
@@ -107,3 +140,15 @@ pub checkpoint_refuses : {V : Type 0} (items : V → List ℕ) (err : Change Sin
     → (IsErr r → (answer ≡ 9) × Sends err (codes "want of memory\n")) → Refuses err answer (refusal.Checkpoint error)
 checkpoint_refuses items err answer error (Ok line) same told none = steps.checkpoint error told.0 (subst (Sends err) same told.1)
 checkpoint_refuses items err answer error (Err e) same told none = steps.unheard_checkpoint error (none refl).0 (none refl).1
+
+pub tree_refuses : {V : Type 0} (items : V → List ℕ) (err : Change SinkState) (answer : ℕ) (error : TreeTextError) (r : Result V NoMemory)
+    → IfOk r (λ line. items line ≡ refused_tree_line error) → IfOk r (λ line. (answer ≡ 11) × Sends err (items line))
+    → (IsErr r → (answer ≡ 9) × Sends err (codes "want of memory\n")) → Refuses err answer (refusal.Tree error)
+tree_refuses items err answer error (Ok line) same told none = steps.tree error told.0 (subst (Sends err) same told.1)
+tree_refuses items err answer error (Err e) same told none = steps.unheard_tree error (none refl).0 (none refl).1
+
+pub range_refuses : {V : Type 0} (items : V → List ℕ) (err : Change SinkState) (answer count : ℕ) (r : Result V NoMemory)
+    → IfOk r (λ line. items line ≡ refused_range_line count) → IfOk r (λ line. (answer ≡ 10) × Sends err (items line))
+    → (IsErr r → (answer ≡ 9) × Sends err (codes "want of memory\n")) → Refuses err answer (refusal.Range count)
+range_refuses items err answer count (Ok line) same told none = steps.range count told.0 (subst (Sends err) same told.1)
+range_refuses items err answer count (Err e) same told none = steps.unheard_range count (none refl).0 (none refl).1

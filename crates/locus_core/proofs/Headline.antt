@@ -17,16 +17,16 @@ use Rattle.rounds.specs.Outcomes.{SumView, IsDone, IsPaused, IsNoInverse, IsTrue
 use Rattle.rounds.specs.declared.progress.Outcome.{Outcome}
 use Rattle.rounds.specs.declared.progress.Outcome.TheVariants.{Done, Paused}
 use Rattle.rounds.proofs.Running.{keeps_truth}
-use Rattle.command_line.specs.Requests.{Request, make}
+use Rattle.command_line.specs.Requests.{Request, make, rank, unrank}
 use Rattle.locus_core.specs.Words.{AsksFor}
 use Rattle.locus_core.specs.Outside.{Change, FilesState, StopperState, Unchanged, TakesText, BreaksOff}
 use Rattle.locus_core.specs.Begins.{Beginning, Begins, by_run, by_resume, by_soak, IsTrueBeginning}
-use Rattle.locus_core.specs.Comes.{Comes, summed, made, RunsRounds, IsAnswer, done, paused, no_inverse}
-use Rattle.locus_core.specs.Ends.{Run, Printed, WordsRefused, ProblemRefused, CheckpointRefused, ReadFault, WriteFault, WantOfMemory, Ends, printed, words_refused, problem_refused, read_fault, write_fault, checkpoint_refused, want_of_memory}
-use Rattle.locus_core.specs.Headline.{IsDoneStatus, IsPrintedStatus, end_of, PrintsSums, PrintsItsSums, NamesLeast, PrintsCheckpoint, SharesBlocks, IsMaking, IsSilentStatus, ClaimsBlocks, WritesBytes}
+use Rattle.locus_core.specs.Comes.{Comes, summed, made, ranked, unranked, RunsRounds, IsAnswer, done, paused, no_inverse}
+use Rattle.locus_core.specs.Ends.{Run, Printed, WordsRefused, ProblemRefused, CheckpointRefused, ReadFault, WriteFault, WantOfMemory, RangeRefused, TreeRefused, Ends, printed, words_refused, problem_refused, read_fault, write_fault, checkpoint_refused, want_of_memory, range_refused, tree_refused}
+use Rattle.locus_core.specs.Headline.{IsDoneStatus, IsPrintedStatus, end_of, PrintsSums, PrintsItsSums, NamesLeast, PrintsCheckpoint, SharesBlocks, SumsNothing, IsSilentStatus, ClaimsBlocks, WritesBytes}
 use Rattle.locus_core.proofs.TrueSums.{none_bad_before, true_at}
-use Rattle.locus_core.proofs.Inversions.{same_request, make_begins_nothing}
-use Rattle.locus_core.proofs.Consequences.{done_is, came, came_printed, CameBySum, CameByMake, never}
+use Rattle.locus_core.proofs.Inversions.{same_request, AsksText, text_begins_nothing}
+use Rattle.locus_core.proofs.Consequences.{done_is, came, came_printed, CameBySum, CameByText, never}
 use Rattle.locus_core.proofs.Decided.{small_degree, below_count, no_bad_tree, paused_end}
 
 -- ---- a sum that is begun
@@ -75,7 +75,9 @@ silent_never n p (inl e) = never n 2 p e refl
 silent_never n p (inr (inl e)) = never n 3 p e refl
 silent_never n p (inr (inr (inl e))) = never n 6 p e refl
 silent_never n p (inr (inr (inr (inl e)))) = never n 8 p e refl
-silent_never n p (inr (inr (inr (inr e)))) = never n 9 p e refl
+silent_never n p (inr (inr (inr (inr (inl e))))) = never n 9 p e refl
+silent_never n p (inr (inr (inr (inr (inr (inl e)))))) = never n 10 p e refl
+silent_never n p (inr (inr (inr (inr (inr (inr e)))))) = never n 11 p e refl
 
 -- a prefix of a text may be on the output at status 7
 seven_tells : (n : ℕ) → IsSilentStatus n → n ≡ 7 → ⊥
@@ -83,7 +85,9 @@ seven_tells n (inl k) e = omega (arith, k, e)
 seven_tells n (inr (inl k)) e = omega (arith, k, e)
 seven_tells n (inr (inr (inl k))) e = omega (arith, k, e)
 seven_tells n (inr (inr (inr (inl k)))) e = omega (arith, k, e)
-seven_tells n (inr (inr (inr (inr k)))) e = omega (arith, k, e)
+seven_tells n (inr (inr (inr (inr (inl k))))) e = omega (arith, k, e)
+seven_tells n (inr (inr (inr (inr (inr (inl k)))))) e = omega (arith, k, e)
+seven_tells n (inr (inr (inr (inr (inr (inr k)))))) e = omega (arith, k, e)
 
 -- at the status of a printed text, the run ended so
 pub as_printed : {P : Type 0} (r : Run) (n : ℕ) → IsPrintedStatus n → Ends r n
@@ -95,14 +99,28 @@ as_printed r n is (read_fault e w) f = absurd (never n 6 is e refl)
 as_printed r n is (write_fault e w) f = absurd (never n 7 is e refl)
 as_printed r n is (checkpoint_refused e w) f = absurd (never n 8 is e refl)
 as_printed r n is (want_of_memory e w) f = absurd (never n 9 is e refl)
+as_printed r n is (range_refused e w) f = absurd (never n 10 is e refl)
+as_printed r n is (tree_refused e w) f = absurd (never n 11 is e refl)
+
+-- words for another text than that of a sum
+pub sums_nothing : (r : Run) (request : Request) → AsksFor r.words request → AsksText request → SumsNothing r
+sums_nothing r request asks (inl (k, same)) = inl (k, subst (AsksFor r.words) same asks)
+sums_nothing r request asks (inr (inl (name, text, same))) = inr (inl (name, text, subst (AsksFor r.words) same asks))
+sums_nothing r request asks (inr (inr (name, k, same))) = inr (inr (name, k, subst (AsksFor r.words) same asks))
+
+-- the request of such words
+nothing_asked : (r : Run) (request : Request) → AsksFor r.words request → SumsNothing r → AsksText request
+nothing_asked r request asks (inl (k, other)) = inl (k, same_request r request (make k) asks other)
+nothing_asked r request asks (inr (inl (name, text, other))) = inr (inl (name, text, same_request r request (rank name text) asks other))
+nothing_asked r request asks (inr (inr (name, k, other))) = inr (inr (name, k, same_request r request (unrank name k) asks other))
 
 pub sums : (r : Run) (n : ℕ) → Ends r n → PrintsItsSums r n
-sums r n e not_making is = as_printed r n (inl is) e (λ request text asks comes out. by request text asks out (came comes))
+sums r n e some is = as_printed r n (inl is) e (λ request text asks comes out. by request text asks out (came comes))
   where
     by : (request : Request) (text : List ℕ) → AsksFor r.words request → TakesText r.out text
-        → CameBySum r.files r.stopper r.shares request n text ⊎ CameByMake request n text → PrintsSums r n
+        → CameBySum r.files r.stopper r.shares request n text ⊎ CameByText r.shares request n → PrintsSums r n
     by request text asks out (inl c) = sums_printed r request c.beginning c.outcome n text asks c.begins c.sums c.answer out is
-    by request text asks out (inr c) = absurd (not_making (c.number, subst (AsksFor r.words) c.asked asks))
+    by request text asks out (inr c) = absurd (some (sums_nothing r request asks c.asked))
 
 -- ---- the least bad number
 -- a decorated tree that is bad has the least bad number or a greater one
@@ -174,7 +192,7 @@ pub refusal : (r : Run) (n : ℕ) → Ends r n → n ≡ 4 → NamesLeast r
 refusal r n e is = as_printed r n (inr (inl is)) e (λ request text asks comes out. by request text asks out (came comes))
   where
     by : (request : Request) (text : List ℕ) → AsksFor r.words request → TakesText r.out text
-        → CameBySum r.files r.stopper r.shares request n text ⊎ CameByMake request n text → NamesLeast r
+        → CameBySum r.files r.stopper r.shares request n text ⊎ CameByText r.shares request n → NamesLeast r
     by request text asks out (inl c) = least_printed r request c.beginning c.outcome n text asks c.begins c.sums c.answer out is
     by request text asks out (inr c) = let zero = c.zero in absurd (omega (arith, zero, is))
 
@@ -225,14 +243,14 @@ pub pause : (r : Run) (n : ℕ) → Ends r n → n ≡ 5 → PrintsCheckpoint r
 pause r n e is = as_printed r n (inr (inr is)) e (λ request text asks comes out. by request text asks out (came comes))
   where
     by : (request : Request) (text : List ℕ) → AsksFor r.words request → TakesText r.out text
-        → CameBySum r.files r.stopper r.shares request n text ⊎ CameByMake request n text → PrintsCheckpoint r
+        → CameBySum r.files r.stopper r.shares request n text ⊎ CameByText r.shares request n → PrintsCheckpoint r
     by request text asks out (inl c) = pause_printed r request c.beginning c.outcome n text asks c.begins c.sums c.answer out is
     by request text asks out (inr c) = let zero = c.zero in absurd (omega (arith, zero, is))
 
 -- ---- shares
 by_sum : (r : Run) (n : ℕ) (request : Request) {m : ℕ} {text : List ℕ} → AsksFor r.words request
-    → CameBySum r.files r.stopper r.shares request m text ⊎ CameByMake request m text
-    → ((n ≡ m) × TakesText r.out text) ⊎ ((n ≡ 7) × BreaksOff r.out text) → IsMaking r ⊎ SharesBlocks r n ⊎ IsSilentStatus n
+    → CameBySum r.files r.stopper r.shares request m text ⊎ CameByText r.shares request m
+    → ((n ≡ m) × TakesText r.out text) ⊎ ((n ≡ 7) × BreaksOff r.out text) → SumsNothing r ⊎ SharesBlocks r n ⊎ IsSilentStatus n
 by_sum r n request {m} {text} asks (inl c) out = inr (inl (record {
   beginning = c.beginning;
   outcome = c.outcome;
@@ -243,36 +261,42 @@ by_sum r n request {m} {text} asks (inl c) out = inr (inl (record {
   answer = c.answer;
   out = out;
 }))
-by_sum r n request asks (inr c) out = inl (c.number, subst (AsksFor r.words) c.asked asks)
+by_sum r n request asks (inr c) out = inl (sums_nothing r request asks c.asked)
 
--- nothing is summed where a text is made
-made_alone : {files : Change FilesState} {stopper : Change StopperState} {shares : List ℕ} {request : Request} {n : ℕ} {text : List ℕ} (number : ℕ)
-    → Comes files stopper shares request n text → request ≡ make number → shares ≡ []
-made_alone {files} number (summed request b outcome n text begins sums answer) e = absurd (make_begins_nothing files request number b begins e)
-made_alone number (made k text reads none still) e = none
+-- nothing is summed for another text
+text_alone : {files : Change FilesState} {stopper : Change StopperState} {shares : List ℕ} {request : Request} {n : ℕ} {text : List ℕ}
+    → Comes files stopper shares request n text → AsksText request → shares ≡ []
+text_alone {files} (summed request b outcome n text begins sums answer) e = absurd (text_begins_nothing files request b begins e)
+text_alone (made k text reads none still) e = none
+text_alone (ranked name text p g file decorated has none still) e = none
+text_alone (unranked name p k file below none still) e = none
 
 pub claims : (r : Run) (n : ℕ) → Ends r n → ClaimsBlocks r n
 claims r n e = (shared e, none e)
   where
-    shared : Ends r n → IsMaking r ⊎ SharesBlocks r n ⊎ IsSilentStatus n
+    shared : Ends r n → SumsNothing r ⊎ SharesBlocks r n ⊎ IsSilentStatus n
     shared (printed w) = by_sum r n w.request w.words (came w.comes) (inl (refl, w.out))
     shared (write_fault seven w) = by_sum r n w.request w.words (came w.comes) (inr (seven, w.out))
     shared (words_refused k w) = inr (inr (inl k))
     shared (problem_refused k w) = inr (inr (inr (inl k)))
     shared (read_fault k w) = inr (inr (inr (inr (inl k))))
     shared (checkpoint_refused k w) = inr (inr (inr (inr (inr (inl k)))))
-    shared (want_of_memory k w) = inr (inr (inr (inr (inr (inr k)))))
+    shared (want_of_memory k w) = inr (inr (inr (inr (inr (inr (inl k))))))
+    shared (range_refused k w) = inr (inr (inr (inr (inr (inr (inr (inl k)))))))
+    shared (tree_refused k w) = inr (inr (inr (inr (inr (inr (inr (inr k)))))))
 
-    none : Ends r n → IsMaking r ⊎ IsSilentStatus n → r.shares ≡ []
-    none (printed w) (inl (k, asks)) = made_alone k w.comes (same_request r w.request (make k) w.words asks)
+    none : Ends r n → SumsNothing r ⊎ IsSilentStatus n → r.shares ≡ []
+    none (printed w) (inl nothing) = text_alone w.comes (nothing_asked r w.request w.words nothing)
     none (printed w) (inr is) = absurd (silent_never n (came_printed w.comes) is)
-    none (write_fault seven w) (inl (k, asks)) = made_alone k w.comes (same_request r w.request (make k) w.words asks)
+    none (write_fault seven w) (inl nothing) = text_alone w.comes (nothing_asked r w.request w.words nothing)
     none (write_fault seven w) (inr is) = absurd (seven_tells n is seven)
     none (words_refused k w) is = w.idle.shares
     none (problem_refused k w) is = w.idle.shares
     none (read_fault k w) is = w.idle.shares
     none (checkpoint_refused k w) is = w.idle.shares
     none (want_of_memory k w) is = w.shares
+    none (range_refused k w) is = w.idle.shares
+    none (tree_refused k w) is = w.idle.shares
 
 -- ---- bytes
 apart : (n a b : ℕ) → n ≡ a → n ≡ b → a ≢ b → ⊥
@@ -287,6 +311,8 @@ bytes r n e = record {
   write_fault = at_write e;
   checkpoint_refused = at_checkpoint e;
   want_of_memory = at_memory e;
+  range_refused = at_range e;
+  tree_refused = at_tree e;
   silent = at_silent e;
   served = at_served e;
 }
@@ -299,6 +325,8 @@ bytes r n e = record {
     at_printed (write_fault k w) is = absurd (never n 7 is k refl)
     at_printed (checkpoint_refused k w) is = absurd (never n 8 is k refl)
     at_printed (want_of_memory k w) is = absurd (never n 9 is k refl)
+    at_printed (range_refused k w) is = absurd (never n 10 is k refl)
+    at_printed (tree_refused k w) is = absurd (never n 11 is k refl)
 
     at_words : Ends r n → n ≡ 2 → WordsRefused r
     at_words (printed w) is = absurd (never n 2 (came_printed w.comes) is refl)
@@ -308,6 +336,8 @@ bytes r n e = record {
     at_words (write_fault k w) is = absurd (apart n 7 2 k is (λ x. cc))
     at_words (checkpoint_refused k w) is = absurd (apart n 8 2 k is (λ x. cc))
     at_words (want_of_memory k w) is = absurd (apart n 9 2 k is (λ x. cc))
+    at_words (range_refused k w) is = absurd (apart n 10 2 k is (λ x. cc))
+    at_words (tree_refused k w) is = absurd (apart n 11 2 k is (λ x. cc))
 
     at_problem : Ends r n → n ≡ 3 → ProblemRefused r
     at_problem (printed w) is = absurd (never n 3 (came_printed w.comes) is refl)
@@ -317,6 +347,8 @@ bytes r n e = record {
     at_problem (write_fault k w) is = absurd (apart n 7 3 k is (λ x. cc))
     at_problem (checkpoint_refused k w) is = absurd (apart n 8 3 k is (λ x. cc))
     at_problem (want_of_memory k w) is = absurd (apart n 9 3 k is (λ x. cc))
+    at_problem (range_refused k w) is = absurd (apart n 10 3 k is (λ x. cc))
+    at_problem (tree_refused k w) is = absurd (apart n 11 3 k is (λ x. cc))
 
     at_read : Ends r n → n ≡ 6 → ReadFault r
     at_read (printed w) is = absurd (never n 6 (came_printed w.comes) is refl)
@@ -326,6 +358,8 @@ bytes r n e = record {
     at_read (write_fault k w) is = absurd (apart n 7 6 k is (λ x. cc))
     at_read (checkpoint_refused k w) is = absurd (apart n 8 6 k is (λ x. cc))
     at_read (want_of_memory k w) is = absurd (apart n 9 6 k is (λ x. cc))
+    at_read (range_refused k w) is = absurd (apart n 10 6 k is (λ x. cc))
+    at_read (tree_refused k w) is = absurd (apart n 11 6 k is (λ x. cc))
 
     at_write : Ends r n → n ≡ 7 → WriteFault r
     at_write (printed w) is = absurd (never n 7 (came_printed w.comes) is refl)
@@ -335,6 +369,8 @@ bytes r n e = record {
     at_write (write_fault k w) is = w
     at_write (checkpoint_refused k w) is = absurd (apart n 8 7 k is (λ x. cc))
     at_write (want_of_memory k w) is = absurd (apart n 9 7 k is (λ x. cc))
+    at_write (range_refused k w) is = absurd (apart n 10 7 k is (λ x. cc))
+    at_write (tree_refused k w) is = absurd (apart n 11 7 k is (λ x. cc))
 
     at_checkpoint : Ends r n → n ≡ 8 → CheckpointRefused r
     at_checkpoint (printed w) is = absurd (never n 8 (came_printed w.comes) is refl)
@@ -344,6 +380,8 @@ bytes r n e = record {
     at_checkpoint (write_fault k w) is = absurd (apart n 7 8 k is (λ x. cc))
     at_checkpoint (checkpoint_refused k w) is = w
     at_checkpoint (want_of_memory k w) is = absurd (apart n 9 8 k is (λ x. cc))
+    at_checkpoint (range_refused k w) is = absurd (apart n 10 8 k is (λ x. cc))
+    at_checkpoint (tree_refused k w) is = absurd (apart n 11 8 k is (λ x. cc))
 
     at_memory : Ends r n → n ≡ 9 → WantOfMemory r
     at_memory (printed w) is = absurd (never n 9 (came_printed w.comes) is refl)
@@ -353,6 +391,30 @@ bytes r n e = record {
     at_memory (write_fault k w) is = absurd (apart n 7 9 k is (λ x. cc))
     at_memory (checkpoint_refused k w) is = absurd (apart n 8 9 k is (λ x. cc))
     at_memory (want_of_memory k w) is = w
+    at_memory (range_refused k w) is = absurd (apart n 10 9 k is (λ x. cc))
+    at_memory (tree_refused k w) is = absurd (apart n 11 9 k is (λ x. cc))
+
+    at_range : Ends r n → n ≡ 10 → RangeRefused r
+    at_range (printed w) is = absurd (never n 10 (came_printed w.comes) is refl)
+    at_range (words_refused k w) is = absurd (apart n 2 10 k is (λ x. cc))
+    at_range (problem_refused k w) is = absurd (apart n 3 10 k is (λ x. cc))
+    at_range (read_fault k w) is = absurd (apart n 6 10 k is (λ x. cc))
+    at_range (write_fault k w) is = absurd (apart n 7 10 k is (λ x. cc))
+    at_range (checkpoint_refused k w) is = absurd (apart n 8 10 k is (λ x. cc))
+    at_range (want_of_memory k w) is = absurd (apart n 9 10 k is (λ x. cc))
+    at_range (range_refused k w) is = w
+    at_range (tree_refused k w) is = absurd (apart n 11 10 k is (λ x. cc))
+
+    at_tree : Ends r n → n ≡ 11 → TreeRefused r
+    at_tree (printed w) is = absurd (never n 11 (came_printed w.comes) is refl)
+    at_tree (words_refused k w) is = absurd (apart n 2 11 k is (λ x. cc))
+    at_tree (problem_refused k w) is = absurd (apart n 3 11 k is (λ x. cc))
+    at_tree (read_fault k w) is = absurd (apart n 6 11 k is (λ x. cc))
+    at_tree (write_fault k w) is = absurd (apart n 7 11 k is (λ x. cc))
+    at_tree (checkpoint_refused k w) is = absurd (apart n 8 11 k is (λ x. cc))
+    at_tree (want_of_memory k w) is = absurd (apart n 9 11 k is (λ x. cc))
+    at_tree (range_refused k w) is = absurd (apart n 10 11 k is (λ x. cc))
+    at_tree (tree_refused k w) is = w
 
     at_silent : Ends r n → IsSilentStatus n → Unchanged r.out
     at_silent (printed w) is = absurd (silent_never n (came_printed w.comes) is)
@@ -362,6 +424,8 @@ bytes r n e = record {
     at_silent (read_fault k w) is = w.idle.out
     at_silent (checkpoint_refused k w) is = w.idle.out
     at_silent (want_of_memory k w) is = w.out
+    at_silent (range_refused k w) is = w.idle.out
+    at_silent (tree_refused k w) is = w.idle.out
 
     at_served : Ends r n → n ≢ 6 → Unchanged r.files
     at_served (printed w) other = w.files
@@ -371,3 +435,5 @@ bytes r n e = record {
     at_served (write_fault k w) other = w.files
     at_served (checkpoint_refused k w) other = w.files
     at_served (want_of_memory k w) other = w.files
+    at_served (range_refused k w) other = w.files
+    at_served (tree_refused k w) other = w.files

@@ -1,5 +1,5 @@
 -- What is known of a sum that began: by its request, and by what its file holds.
-use Rattle.std.proofs.Common.{◌≡◌, ℕ, List, Option, Some, None, Ok, Err, IfSome, IsSome, refl, sym, ap, ap₂, ◌∙◌, subst, ◌⊎◌, inl, inr}
+use Rattle.std.proofs.Common.{◌≡◌, ◌≢◌, ℕ, Bool, true, false, List, Option, Some, None, Ok, Err, IfSome, IsSome, refl, sym, ap, ap₂, ◌∙◌, subst, ◌⊎◌, inl, inr}
 use Rattle.std.proofs.lemmas.Bool.{false≢true}
 use Rattle.std.proofs.lemmas.Option.{same_Some}
 use Rattle.locus_io.specs.Content.{NamedFiles, file_of}
@@ -11,13 +11,13 @@ use Rattle.checkpoint.specs.Texts.{IsTextOf}
 use Rattle.checkpoint.specs.Refusals.{IsCheckpointRefusal}
 use Rattle.checkpoint.specs.declared.error.CheckpointError.{CheckpointError}
 use Rattle.checkpoint.proofs.ReadingLaws.{state_is_read, refusal_is_read}
-use Rattle.command_line.specs.Requests.{Request, Sum, run, resume, make, soak}
+use Rattle.command_line.specs.Requests.{Request, Sum, run, resume, make, soak, rank, unrank}
 use Rattle.command_line.specs.declared.table.Commands.TheVariants.{Built}
 use Rattle.command_line.proofs.Consequences.{one_request}
 use Rattle.locus_core.specs.Words.{AsksFor}
 use Rattle.locus_core.specs.Outside.{Change, FilesState, Holds}
 use Rattle.locus_core.specs.Begins.{Beginning, Begins, by_run, by_resume, by_soak, of_text, of_state, of_number, plan_of}
-use Rattle.locus_core.specs.Comes.{file_of_request}
+use Rattle.locus_core.specs.Comes.{file_of_request, problem_file_of}
 use Rattle.locus_core.specs.Ends.{Run}
 
 -- the words ask for one thing
@@ -37,26 +37,88 @@ same_bytes files told a b first second is same f h =
     same_Some first second (sym f ∙ ap (λ name. file_of name told) same ∙ g)
 
 -- ---- requests that differ
-abbrev is_run : Request → ℕ
-is_run (run s) = 0
-is_run (resume s) = 1
-is_run (make number) = 2
-is_run (soak number workers) = 3
-is_run _ = 4
+abbrev pub kind_of : Request → ℕ
+kind_of (run s) = 0
+kind_of (resume s) = 1
+kind_of (make number) = 2
+kind_of (soak number workers) = 3
+kind_of (rank name text) = 4
+kind_of (unrank name number) = 5
+kind_of _ = 6
+
+pub differ : (a b : Request) → a ≡ b → kind_of a ≢ kind_of b → ⊥
+differ a b e h = h (ap kind_of e)
 
 pub same_file : (a b : Request) (x y : List ℕ) → a ≡ b → file_of_request a ≡ Some x → file_of_request b ≡ Some y → x ≡ y
 same_file a b x y same e f = same_Some x y (sym e ∙ ap file_of_request same ∙ f)
 
 pub run_not_resume : (s t : Sum) → run s ≡ resume t → ⊥
-run_not_resume s t e = let n = ap is_run e in cc
+run_not_resume s t e = let n = ap kind_of e in cc
 
 pub run_not_make : (s : Sum) (number : ℕ) → run s ≡ make number → ⊥
-run_not_make s number e = let n = ap is_run e in cc
+run_not_make s number e = let n = ap kind_of e in cc
 
 pub resume_not_make : (s : Sum) (number : ℕ) → resume s ≡ make number → ⊥
-resume_not_make s number e = let n = ap is_run e in cc
+resume_not_make s number e = let n = ap kind_of e in cc
+
+-- a problem is asked for by the name of its file
+pub file_of_problem : (request : Request) (name : List ℕ) → problem_file_of request ≡ Some name → file_of_request request ≡ Some name
+file_of_problem (run s) name e = e
+file_of_problem (rank file text) name e = e
+file_of_problem (unrank file number) name e = e
+file_of_problem _ name e = absurd (let f : ⊥ = cc in f)
+
+-- ---- requests for another text than that of a sum
+abbrev pub AsksText : Request → Type 0
+AsksText request = ((number : ℕ) × (request ≡ make number)) ⊎ ((name text : List ℕ) × (request ≡ rank name text))
+    ⊎ ((name : List ℕ) × (number : ℕ) × (request ≡ unrank name number))
+
+abbrev sums : Request → Bool
+sums (run s) = true
+sums (resume s) = true
+sums (soak number workers) = true
+sums _ = false
+
+text_sums_nothing : (request : Request) → AsksText request → sums request ≡ false
+text_sums_nothing request (inl (number, e)) = ap sums e
+text_sums_nothing request (inr (inl (name, text, e))) = ap sums e
+text_sums_nothing request (inr (inr (name, number, e))) = ap sums e
+
+pub resume_is_sum : (s : Sum) → AsksText (resume s) → ⊥
+resume_is_sum s asks = false≢true (sym (text_sums_nothing (resume s) asks))
+
+begun_sums : (files : Change FilesState) (request : Request) (b : Beginning) → Begins files request b → sums request ≡ true
+begun_sums files _ _ (by_run s bytes p file reads) = refl
+begun_sums files _ _ (by_resume s bytes state file is of) = refl
+begun_sums files _ _ (by_soak number workers) = refl
+
+pub text_begins_nothing : (files : Change FilesState) (request : Request) (b : Beginning) → Begins files request b → AsksText request → ⊥
+text_begins_nothing files request b begins asks =
+    false≢true (sym (text_sums_nothing request asks) ∙ begun_sums files request b begins)
 
 -- ---- how a sum began
+-- the problem of the file that is asked for
+pub record ReadsProblem (files : Change FilesState) (name : List ℕ) : Type 0 where
+  pub bytes : List ℕ
+  pub problem : ProblemView
+  pub file : Holds files name bytes
+  pub reads : reading bytes ≡ Ok problem
+
+pub begun_of_problem : (files : Change FilesState) (request : Request) (b : Beginning) (name : List ℕ) → Begins files request b
+    → problem_file_of request ≡ Some name → ReadsProblem files name
+begun_of_problem files _ _ name (by_run s bytes p file reads) e =
+    record { bytes = bytes; problem = p; file = subst (λ x. Holds files x bytes) (same_Some s.file name e) file; reads = reads }
+begun_of_problem files _ _ name (by_resume s bytes state file is of) e = absurd (let f : ⊥ = cc in f)
+begun_of_problem files _ _ name (by_soak number workers) e = absurd (let f : ⊥ = cc in f)
+
+-- the file that is asked for has some bytes
+pub begun_of_file : (files : Change FilesState) (request : Request) (b : Beginning) (name : List ℕ) → Begins files request b
+    → file_of_request request ≡ Some name → (bytes : List ℕ) × Holds files name bytes
+begun_of_file files _ _ name (by_run s bytes p file reads) e = (bytes, subst (λ x. Holds files x bytes) (same_Some s.file name e) file)
+begun_of_file files _ _ name (by_resume s bytes state file is of) e =
+    (bytes, subst (λ x. Holds files x bytes) (same_Some s.file name e) file)
+begun_of_file files _ _ name (by_soak number workers) e = absurd (let f : ⊥ = cc in f)
+
 pub record BegunByRun (files : Change FilesState) (s : Sum) (b : Beginning) : Type 0 where
   pub bytes : List ℕ
   pub problem : ProblemView
@@ -76,7 +138,7 @@ begun_by_run files _ s _ (by_run t bytes p file reads) e =
     same_sum : (x y : Sum) → run x ≡ run y → x ≡ y
     same_sum x y e = ap (λ q. sum_in q x) e
 begun_by_run files _ s _ (by_resume t bytes state file is of) e = absurd (run_not_resume s t (sym e))
-begun_by_run files _ s _ (by_soak number workers) e = absurd (let n = ap is_run e in let f : ⊥ = cc in f)
+begun_by_run files _ s _ (by_soak number workers) e = absurd (let n = ap kind_of e in let f : ⊥ = cc in f)
 
 pub record BegunByResume (files : Change FilesState) (s : Sum) (b : Beginning) : Type 0 where
   pub bytes : List ℕ
@@ -98,7 +160,7 @@ begun_by_resume files _ s _ (by_resume t bytes state file is of) e =
     same_sum : (x y : Sum) → resume x ≡ resume y → x ≡ y
     same_sum x y e = ap (λ q. sum_in q x) e
 begun_by_resume files _ s _ (by_run t bytes p file reads) e = absurd (run_not_resume t s e)
-begun_by_resume files _ s _ (by_soak number workers) e = absurd (let n = ap is_run e in let f : ⊥ = cc in f)
+begun_by_resume files _ s _ (by_soak number workers) e = absurd (let n = ap kind_of e in let f : ⊥ = cc in f)
 
 -- ---- what bytes cannot both be
 pub not_both_read : (bytes : List ℕ) (p : ProblemView) (error : ProblemError) → reading bytes ≡ Ok p → reading bytes ≡ Err error → ⊥
@@ -111,15 +173,10 @@ not_both_states bytes state error is of refused =
 pub same_state : (bytes : List ℕ) (a b : StateView) → IsState a → IsTextOf a bytes → IsState b → IsTextOf b bytes → a ≡ b
 same_state bytes a b is of js og = let c = sym (state_is_read bytes a is of) ∙ state_is_read bytes b js og in cc
 
-pub make_begins_nothing : (files : Change FilesState) (r : Request) (number : ℕ) (b : Beginning) → Begins files r b → r ≡ make number → ⊥
-make_begins_nothing files _ number _ (by_run t bytes p file reads) e = run_not_make t number e
-make_begins_nothing files _ number _ (by_resume t bytes state file is of) e = resume_not_make t number e
-make_begins_nothing files _ number _ (by_soak k workers) e = let n = ap is_run e in cc
-
 pub begun_by_soak : (files : Change FilesState) (r : Request) (number workers : ℕ) (b : Beginning) → Begins files r b → r ≡ soak number workers
     → b ≡ of_number number workers
-begun_by_soak files _ number workers _ (by_run t bytes p file reads) e = absurd (let n = ap is_run e in let f : ⊥ = cc in f)
-begun_by_soak files _ number workers _ (by_resume t bytes state file is of) e = absurd (let n = ap is_run e in let f : ⊥ = cc in f)
+begun_by_soak files _ number workers _ (by_run t bytes p file reads) e = absurd (let n = ap kind_of e in let f : ⊥ = cc in f)
+begun_by_soak files _ number workers _ (by_resume t bytes state file is of) e = absurd (let n = ap kind_of e in let f : ⊥ = cc in f)
 begun_by_soak files _ number workers _ (by_soak k w) e =
     ap₂ of_number (ap number_in e) (ap workers_of e)
   where

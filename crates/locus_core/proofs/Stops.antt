@@ -5,8 +5,8 @@ use Rattle.command_line.specs.Requests.{Request}
 use Rattle.locus_core.specs.Words.{AsksFor}
 use Rattle.locus_core.specs.Outside.{Change, FilesState, StopperState, Unchanged, HasStopped}
 use Rattle.locus_core.specs.Begins.{Beginning, Begins, by_run, by_resume, by_soak}
-use Rattle.locus_core.specs.Comes.{Comes, summed, made, RunsRounds, IsAnswer, done, paused, no_inverse, stop_file_of, MayHaveStopped}
-use Rattle.locus_core.specs.Ends.{Run, Ends, printed, words_refused, problem_refused, read_fault, write_fault, checkpoint_refused, want_of_memory}
+use Rattle.locus_core.specs.Comes.{Comes, summed, made, ranked, unranked, RunsRounds, IsAnswer, done, paused, no_inverse, stop_file_of, MayHaveStopped}
+use Rattle.locus_core.specs.Ends.{Run, Ends, printed, words_refused, problem_refused, read_fault, write_fault, checkpoint_refused, want_of_memory, range_refused, tree_refused}
 use Rattle.locus_core.specs.Headline.{HasStopFile, HeedsStops}
 
 -- the stop file of a plan is the one that the words name
@@ -45,6 +45,8 @@ by_comes : (r : Run) {request : Request} {n : ℕ} {text : List ℕ} → AsksFor
     → Unchanged r.stopper ⊎ (HasStopFile r × (n ≡ 5))
 by_comes r asks (summed request b outcome n text begins sums answer) = by_answer r request b asks begins sums answer
 by_comes r asks (made number text reads none still) = inl still
+by_comes r asks (ranked name text p g file decorated has none still) = inl still
+by_comes r asks (unranked name p number file below none still) = inl still
 
 pub stops : (r : Run) (n : ℕ) → Ends r n → HeedsStops r n
 stops r n (printed w) = ⊎_elim (λ still. inl still) (λ s. inr (s.0, inl s.1)) (by_comes r w.words w.comes)
@@ -55,3 +57,5 @@ stops r n (words_refused k w) = inl w.idle.stopper
 stops r n (problem_refused k w) = inl w.idle.stopper
 stops r n (read_fault k w) = inl w.idle.stopper
 stops r n (checkpoint_refused k w) = inl w.idle.stopper
+stops r n (range_refused k w) = inl w.idle.stopper
+stops r n (tree_refused k w) = inl w.idle.stopper

@@ -44,7 +44,7 @@ fresh_error bytes error e = by_reading (reading bytes) refl e
         is ∙ ap Err same
 
 -- ---- what is done without memory is refused
-worked : (request : Request) (files : Change FilesState) (stopper : Change StopperState) (r : Result Printable NoMemory) (result : Result Printable Refusal)
+pub worked : (request : Request) (files : Change FilesState) (stopper : Change StopperState) (r : Result Printable NoMemory) (result : Result Printable Refusal)
     → result ≡ as_refusal r → Unchanged files → IfOk r (λ p. Comes files stopper p.shares request (code_of p.status) p.text.items)
     → OnErr r (MayHaveStopped request stopper) → IsWork request files stopper result
 worked request files stopper (Ok p) result is kept ok err = subst (IsWork request files stopper) (sym is) (kept, ok)
@@ -63,7 +63,7 @@ pub run_refused : (files : Change FilesState) (stopper : Change StopperState) (s
     → Loads 1048576 files s.file got → fresh_of got ≡ Err error → Unchanged files → Unchanged stopper → WhyNot (run s) files stopper (refusal.Problem error)
 run_refused files stopper s got error loads fresh kept still =
     let (bytes, file, refused) = problem_refused files s.file got error loads (fresh_error got error fresh) in
-    problem s bytes error refl file refused kept still
+    problem s.file bytes error refl file refused kept still
 
 resume_comes : (files : Change FilesState) (stopper : Change StopperState) (shares : List ℕ) (s : Sum) (got : List ℕ) (state : StateView) (status : ℕ) (text : List ℕ)
     → Loads 1052672 files s.file got → IsState state → IsTextOf state got → Continues (of_state state (plan_of s)) stopper shares status text

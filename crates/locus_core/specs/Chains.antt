@@ -82,7 +82,7 @@ pub record EndsChain (source : List ℕ) (p : ProblemView) (r : Run) (n : ℕ) :
   pub refusal : n ≡ 4 → NamesLeastOfAll p r
   pub pause : n ≡ 5 → PausesTruly source p r
   pub same : EndsAsAnother source r n
-  pub accepted : (n ≢ 2) × (n ≢ 3) × (n ≢ 8)
+  pub accepted : (n ≢ 2) × (n ≢ 3) × (n ≢ 8) × (n ≢ 10) × (n ≢ 11)
 
 -- in each chain of which the run is the last one, from a text that writes a problem
 abbrev pub EndsItsChains : Run → ℕ → Type 0

@@ -1,9 +1,13 @@
 -- What is asked for comes to.
-use Rattle.std.specs.Prelude.{◌≡◌, ◌⊎◌, ℕ, List, [], ◌++◌, Option, Some, None, Ok, IsSome, IfSome}
+use Rattle.std.specs.Prelude.{◌≡◌, ◌⊎◌, ℕ, ◌<◌, true, List, [], ◌++◌, Option, Some, None, Ok, IsSome, IfSome}
+use Rattle.trees.specs.Decorated.{DecoratedTree, is_decorated}
+use Rattle.trees.specs.Texts.{tree_text}
+use Rattle.trees.specs.TreeNumbers.{tree_of, number_of}
 use Rattle.recover_fraction.specs.declared.recovery.Fraction.{Fraction}
-use Rattle.problem.specs.Rules.{KeepsRules}
+use Rattle.problem.specs.Rules.{ProblemView, KeepsRules}
+use Rattle.problem.specs.Sums.{count_of}
 use Rattle.problem_toml.specs.Generator.{generated_problem}
-use Rattle.problem_toml.specs.Reading.{reading_of_any_length}
+use Rattle.problem_toml.specs.Reading.{reading, reading_of_any_length}
 use Rattle.checkpoint.specs.States.{StateView}
 use Rattle.checkpoint.specs.Texts.{text_in}
 use Rattle.report.specs.Fractions.{AreFractions}
@@ -12,9 +16,10 @@ use Rattle.report.specs.Texts.{done_text, no_inverse_text}
 use Rattle.rounds.specs.Outcomes.{IsProgress, IsEarly}
 use Rattle.rounds.specs.declared.progress.Outcome.{Outcome}
 use Rattle.rounds.specs.declared.progress.Outcome.TheVariants.{Done, Paused, NoInverse}
-use Rattle.command_line.specs.Requests.{Request, run, resume, make}
-use Rattle.locus_core.specs.Outside.{Change, Unchanged, FilesState, StopperState, HasStopped}
+use Rattle.command_line.specs.Requests.{Request, run, resume, make, rank, unrank}
+use Rattle.locus_core.specs.Outside.{Change, Unchanged, FilesState, StopperState, Holds, HasStopped}
 use Rattle.locus_core.specs.Begins.{Beginning, Begins}
+use Rattle.locus_core.specs.Texts.{number_line, tree_line}
 
 -- Rounds were run from the beginning on, as many as the budget gives or up to the first that has a bad tree, and the
 -- workers share their blocks. They ended before the budget's end only if a stop was asked for under the plan's name.
@@ -38,18 +43,40 @@ pub data IsAnswer (b : Beginning) : Outcome → ℕ → List ℕ → Type 0 wher
   no_inverse : (number modulus : ℕ)
       → IsAnswer b (NoInverse number modulus) 4 (b.heading ++ no_inverse_text b.sum.problem number modulus)
 
--- A sum was begun, and this is its answer; or a text was made that reads as the generated problem of a number.
+-- the file of a name holds a text that writes this problem, which keeps the rules
+pub record HoldsProblem (files : Change FilesState) (name : List ℕ) (p : ProblemView) : Type 0 where
+  pub bytes : List ℕ
+  pub file : Holds files name bytes
+  pub reads : reading bytes ≡ Ok p
+  pub rules : KeepsRules p
+
+-- A sum was begun, and this is its answer; or a text was made that reads as the generated problem of a number; or of the
+-- decorated trees of a problem, the one with a text has this number, or the one with a number has this text.
 pub data Comes (files : Change FilesState) (stopper : Change StopperState) (shares : List ℕ) : Request → ℕ → List ℕ → Type 0 where
   summed : (request : Request) (b : Beginning) (outcome : Outcome) (status : ℕ) (text : List ℕ) → Begins files request b
       → RunsRounds b stopper shares outcome → IsAnswer b outcome status text → Comes files stopper shares request status text
   made : (number : ℕ) (text : List ℕ) → reading_of_any_length text ≡ Ok (generated_problem number) → shares ≡ []
       → Unchanged stopper → Comes files stopper shares (make number) 0 text
+  ranked : (name text : List ℕ) (p : ProblemView) (g : DecoratedTree) → HoldsProblem files name p → is_decorated p.shape g ≡ true
+      → text ≡ tree_text g → shares ≡ [] → Unchanged stopper
+      → Comes files stopper shares (rank name text) 0 (number_line (number_of p.shape g))
+  unranked : (name : List ℕ) (p : ProblemView) (number : ℕ) → HoldsProblem files name p → number < count_of p → shares ≡ []
+      → Unchanged stopper → Comes files stopper shares (unrank name number) 0 (tree_line (tree_of p.shape number))
 
 -- the file that is asked for
 abbrev pub file_of_request : Request → Option (List ℕ)
 file_of_request (run s) = Some s.file
 file_of_request (resume s) = Some s.file
+file_of_request (rank name text) = Some name
+file_of_request (unrank name number) = Some name
 file_of_request _ = None
+
+-- the same, if it is a problem that is asked for
+abbrev pub problem_file_of : Request → Option (List ℕ)
+problem_file_of (run s) = Some s.file
+problem_file_of (rank name text) = Some name
+problem_file_of (unrank name number) = Some name
+problem_file_of _ = None
 
 -- the name of the file at whose presence the sum pauses
 abbrev pub stop_file_of : Request → Option (List ℕ)

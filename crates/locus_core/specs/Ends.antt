@@ -1,15 +1,19 @@
 -- How a run ends.
-use Rattle.std.specs.Prelude.{◌≡◌, ℕ, List, [], Some, Err, codes}
+use Rattle.std.specs.Prelude.{◌≡◌, ℕ, ◌≤◌, List, [], Some, Err, codes}
+use Rattle.problem.specs.Rules.{ProblemView}
+use Rattle.problem.specs.Sums.{count_of}
 use Rattle.problem_toml.specs.Reading.{reading}
 use Rattle.problem_toml.specs.declared.error.ProblemError.{ProblemError}
 use Rattle.checkpoint.specs.Refusals.{IsCheckpointRefusal}
 use Rattle.checkpoint.specs.declared.error.CheckpointError.{CheckpointError}
+use Rattle.tree_text.specs.Refusals.{IsRefusal}
+use Rattle.tree_text.specs.declared.error.TreeTextError.{TreeTextError}
 use Rattle.command_words.specs.Words.{AreRefusedFirst}
-use Rattle.command_line.specs.Requests.{Request, Sum, run, resume}
+use Rattle.command_line.specs.Requests.{Request, Sum, resume, rank, unrank}
 use Rattle.locus_core.specs.Words.{AsksFor, AskNothing}
-use Rattle.locus_core.specs.Texts.{refused_line, refused_checkpoint_line}
+use Rattle.locus_core.specs.Texts.{refused_line, refused_checkpoint_line, refused_tree_line, refused_range_line}
 use Rattle.locus_core.specs.Outside.{Change, Unchanged, FilesState, StopperState, SinkState, Holds, HasFaultAt, TakesText, BreaksOff, Sends}
-use Rattle.locus_core.specs.Comes.{Comes, file_of_request, MayHaveStopped}
+use Rattle.locus_core.specs.Comes.{Comes, HoldsProblem, file_of_request, problem_file_of, MayHaveStopped}
 
 -- A run as it is seen from outside: its words, its files, the output, standard error and the stopper, and how many blocks
 -- each worker worked.
@@ -51,13 +55,15 @@ pub record WordsRefused (r : Run) : Type 0 where
   pub idle : IsIdle r
   pub err : Sends r.err text
 
--- The file of a sum was read, and its bytes write no problem. The line names the first rule that they break.
+-- The file of a problem was read, and its bytes write none. The line names the first rule that they break.
 pub record ProblemRefused (r : Run) : Type 0 where
-  pub sum : Sum
+  pub request : Request
+  pub name : List ℕ
   pub bytes : List ℕ
   pub error : ProblemError
-  pub words : AsksFor r.words (run sum)
-  pub file : Holds r.files sum.file bytes
+  pub words : AsksFor r.words request
+  pub asked : problem_file_of request ≡ Some name
+  pub file : Holds r.files name bytes
   pub refused : reading bytes ≡ Err error
   pub files : Unchanged r.files
   pub idle : IsIdle r
@@ -75,6 +81,31 @@ pub record CheckpointRefused (r : Run) : Type 0 where
   pub files : Unchanged r.files
   pub idle : IsIdle r
   pub err : Sends r.err (refused_checkpoint_line error)
+
+-- The file was read, and the number is not below the number of the decorated trees of its problem, which the line names.
+pub record RangeRefused (r : Run) : Type 0 where
+  pub name : List ℕ
+  pub number : ℕ
+  pub problem : ProblemView
+  pub words : AsksFor r.words (unrank name number)
+  pub file : HoldsProblem r.files name problem
+  pub above : count_of problem ≤ number
+  pub files : Unchanged r.files
+  pub idle : IsIdle r
+  pub err : Sends r.err (refused_range_line (count_of problem))
+
+-- The file was read, and the text is that of no decorated tree of its problem. The line says why.
+pub record TreeRefused (r : Run) : Type 0 where
+  pub name : List ℕ
+  pub text : List ℕ
+  pub problem : ProblemView
+  pub error : TreeTextError
+  pub words : AsksFor r.words (rank name text)
+  pub file : HoldsProblem r.files name problem
+  pub refused : IsRefusal problem.shape text error
+  pub files : Unchanged r.files
+  pub idle : IsIdle r
+  pub err : Sends r.err (refused_tree_line error)
 
 -- A load of the file that is asked for failed: the files counted a fault at its name.
 pub record ReadFault (r : Run) : Type 0 where
@@ -116,3 +147,5 @@ pub data Ends (r : Run) (status : ℕ) : Type 0 where
   write_fault : status ≡ 7 → WriteFault r → Ends r status
   checkpoint_refused : status ≡ 8 → CheckpointRefused r → Ends r status
   want_of_memory : status ≡ 9 → WantOfMemory r → Ends r status
+  range_refused : status ≡ 10 → RangeRefused r → Ends r status
+  tree_refused : status ≡ 11 → TreeRefused r → Ends r status

@@ -17,24 +17,24 @@ use Rattle.checkpoint.specs.Texts.{IsTextOf, text_in}
 use Rattle.rounds.specs.Outcomes.{IsSummed, IsPaused, IsProgress}
 use Rattle.rounds.specs.declared.progress.Outcome.{Outcome}
 use Rattle.rounds.specs.Rounds.{budget_end}
-use Rattle.command_line.specs.Requests.{Request, Sum, run, resume, make}
+use Rattle.command_line.specs.Requests.{Request, Sum, resume, make, rank, unrank}
 use Rattle.locus_core.specs.Words.{AsksFor}
 use Rattle.locus_core.specs.Outside.{Unchanged, HasStopped, TakesText, BreaksOff}
 use Rattle.locus_core.specs.Begins.{Beginning, Begins, IsTrueBeginning}
-use Rattle.locus_core.specs.Comes.{IsAnswer, file_of_request, stop_file_of, state_at}
-use Rattle.locus_core.specs.Ends.{Run, Printed, WordsRefused, ProblemRefused, CheckpointRefused, ReadFault, WriteFault, WantOfMemory}
+use Rattle.locus_core.specs.Comes.{IsAnswer, file_of_request, problem_file_of, stop_file_of, state_at}
+use Rattle.locus_core.specs.Ends.{Run, Printed, WordsRefused, ProblemRefused, CheckpointRefused, ReadFault, WriteFault, WantOfMemory, RangeRefused, TreeRefused}
 
 -- done, with a fraction for each integral or without one for some integral
 abbrev pub IsDoneStatus : ℕ → Type 0
 IsDoneStatus n = (n ≡ 0) ⊎ (n ≡ 1)
 
--- the whole text of a sum or of a problem is printed: it is done, no inverse, or paused
+-- the whole text that is asked for is printed: it is done, no inverse, or paused
 abbrev pub IsPrintedStatus : ℕ → Type 0
 IsPrintedStatus n = IsDoneStatus n ⊎ (n ≡ 4) ⊎ (n ≡ 5)
 
 -- the statuses that there are
 abbrev pub IsStatus : ℕ → Type 0
-IsStatus n = IsPrintedStatus n ⊎ (n ≡ 2) ⊎ (n ≡ 3) ⊎ (n ≡ 6) ⊎ (n ≡ 7) ⊎ (n ≡ 8) ⊎ (n ≡ 9)
+IsStatus n = IsPrintedStatus n ⊎ (n ≡ 2) ⊎ (n ≡ 3) ⊎ (n ≡ 6) ⊎ (n ≡ 7) ⊎ (n ≡ 8) ⊎ (n ≡ 9) ⊎ (n ≡ 10) ⊎ (n ≡ 11)
 
 -- The file of a name holds these bytes, and the words ask for this.
 pub record AsksOf (r : Run) (told : NamedFiles) (request : Request) (bytes : List ℕ) : Type 0 where
@@ -47,11 +47,11 @@ pub record AsksOf (r : Run) (told : NamedFiles) (request : Request) (bytes : Lis
 abbrev pub IsNoCheckpoint : List ℕ → Type 0
 IsNoCheckpoint bytes = (state : StateView) → IsState state → ¬ IsTextOf state bytes
 
--- If the file was read, and memory was not refused: the bytes of a `run` decide whether they are refused, and so do those
--- of a `resume`.
+-- If the file was read, and memory was not refused: where a problem is asked for, of `run`, `rank` and `unrank`, the bytes
+-- decide whether they are refused, and so do those of a `resume`.
 abbrev pub Accepts : Run → ℕ → Type 0
-Accepts r n = IfSome r.files.before.content (λ told. (s : Sum) (bytes : List ℕ) → n ≢ 6 → n ≢ 9
-    → (AsksOf r told (run s) bytes → ((n ≡ 3) ↔ IsErr (reading bytes)))
+Accepts r n = IfSome r.files.before.content (λ told. (request : Request) (s : Sum) (bytes : List ℕ) → n ≢ 6 → n ≢ 9
+    → (IsSome (problem_file_of request) → AsksOf r told request bytes → ((n ≡ 3) ↔ IsErr (reading bytes)))
     × (AsksOf r told (resume s) bytes → ((n ≡ 8) ↔ IsNoCheckpoint bytes)))
 
 -- The file that is asked for is not there: a read fault, but for want of memory.
@@ -145,9 +145,21 @@ pub record PrintsSums (r : Run) (n : ℕ) : Type 0 where
 abbrev pub IsMaking : Run → Type 0
 IsMaking r = (number : ℕ) × AsksFor r.words (make number)
 
+-- they ask for the number of a tree
+abbrev pub IsRanking : Run → Type 0
+IsRanking r = (name text : List ℕ) × AsksFor r.words (rank name text)
+
+-- they ask for the tree of a number
+abbrev pub IsUnranking : Run → Type 0
+IsUnranking r = (name : List ℕ) × (number : ℕ) × AsksFor r.words (unrank name number)
+
+-- the words ask for no sum: for `make`, `rank` or `unrank`
+abbrev pub SumsNothing : Run → Type 0
+SumsNothing r = IsMaking r ⊎ IsRanking r ⊎ IsUnranking r
+
 -- what a done sum has printed
 abbrev pub PrintsItsSums : Run → ℕ → Type 0
-PrintsItsSums r n = ¬ IsMaking r → IsDoneStatus n → PrintsSums r n
+PrintsItsSums r n = ¬ SumsNothing r → IsDoneStatus n → PrintsSums r n
 
 -- The least bad number from the first on was printed, with the first modulus for which it is bad and its tree. If no tree
 -- was summed before, or the residues so far were true, no decorated tree that is bad has a smaller number.
@@ -195,11 +207,11 @@ pub record SharesBlocks (r : Run) (n : ℕ) : Type 0 where
 
 -- nothing goes to the output
 abbrev pub IsSilentStatus : ℕ → Type 0
-IsSilentStatus n = (n ≡ 2) ⊎ (n ≡ 3) ⊎ (n ≡ 6) ⊎ (n ≡ 8) ⊎ (n ≡ 9)
+IsSilentStatus n = (n ≡ 2) ⊎ (n ≡ 3) ⊎ (n ≡ 6) ⊎ (n ≡ 8) ⊎ (n ≡ 9) ⊎ (n ≡ 10) ⊎ (n ≡ 11)
 
 -- of a sum that was printed, or of which a prefix was, the shares are those of its rounds; otherwise there are none
 abbrev pub ClaimsBlocks : Run → ℕ → Type 0
-ClaimsBlocks r n = (IsMaking r ⊎ SharesBlocks r n ⊎ IsSilentStatus n) × (IsMaking r ⊎ IsSilentStatus n → r.shares ≡ [])
+ClaimsBlocks r n = (SumsNothing r ⊎ SharesBlocks r n ⊎ IsSilentStatus n) × (SumsNothing r ⊎ IsSilentStatus n → r.shares ≡ [])
 
 -- What was written, and where, for each status. Nothing goes to the output at the statuses that print no text, and the
 -- files count a fault at status 6 alone.
@@ -211,5 +223,7 @@ pub record WritesBytes (r : Run) (n : ℕ) : Type 0 where
   pub write_fault : n ≡ 7 → WriteFault r
   pub checkpoint_refused : n ≡ 8 → CheckpointRefused r
   pub want_of_memory : n ≡ 9 → WantOfMemory r
+  pub range_refused : n ≡ 10 → RangeRefused r
+  pub tree_refused : n ≡ 11 → TreeRefused r
   pub silent : IsSilentStatus n → Unchanged r.out
   pub served : n ≢ 6 → Unchanged r.files

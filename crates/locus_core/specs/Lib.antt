@@ -6,4 +6,5 @@ pub mod Comes
 pub mod Ends
 pub mod Headline
 pub mod Chains
+pub mod Numbers
 pub mod Steps

@@ -1,7 +1,7 @@
 -- The steps of a run.
-use Rattle.std.specs.Prelude.{◌≡◌, ℕ, suc, List, take, Some, Result, Ok, Err, IfSome, option_map, codes}
+use Rattle.std.specs.Prelude.{◌≡◌, ℕ, ◌≤◌, suc, List, take, Some, Result, Ok, Err, IfSome, option_map, codes}
 use Rattle.command_words.specs.Words.{AreRefusedFirst}
-use Rattle.command_line.specs.Requests.{Request, Sum, run, resume}
+use Rattle.command_line.specs.Requests.{Request, Sum, resume, rank, unrank}
 use Rattle.locus_io.specs.Content.{file_of}
 use Rattle.problem_toml.specs.Reading.{reading}
 use Rattle.problem_toml.specs.declared.error.ProblemError.{ProblemError}
@@ -9,15 +9,20 @@ use Rattle.checkpoint.specs.Refusals.{IsCheckpointRefusal}
 use Rattle.checkpoint.specs.declared.error.CheckpointError.{CheckpointError}
 use Rattle.rounds.specs.declared.progress.Outcome.{Outcome}
 use Rattle.rounds.specs.declared.progress.Outcome.TheVariants.{Done, Paused, NoInverse}
+use Rattle.problem.specs.declared.problem.Problem.{Problem}
+use Rattle.problem.specs.Problems.{view as problem_view}
 use Rattle.problem.specs.Rules.{ProblemView}
+use Rattle.problem.specs.Sums.{count_of}
+use Rattle.tree_text.specs.Refusals.{IsRefusal}
+use Rattle.tree_text.specs.declared.error.TreeTextError.{TreeTextError}
 use Rattle.report.specs.Report.{IsDoneReport}
 use Rattle.report.specs.Texts.{no_inverse_text}
 use Rattle.report.specs.Statuses.{code_of}
 use Rattle.locus_core.specs.Words.{AsksFor, AskNothing}
-use Rattle.locus_core.specs.Texts.{refused_line, refused_checkpoint_line}
+use Rattle.locus_core.specs.Texts.{refused_line, refused_checkpoint_line, refused_tree_line, refused_range_line}
 use Rattle.locus_core.specs.Outside.{Change, Unchanged, FilesState, StopperState, SinkState, Holds, HasFaultAt, TakesText, BreaksOff, Sends}
 use Rattle.locus_core.specs.Begins.{Beginning}
-use Rattle.locus_core.specs.Comes.{RunsRounds, IsAnswer, Comes, file_of_request, MayHaveStopped}
+use Rattle.locus_core.specs.Comes.{RunsRounds, IsAnswer, Comes, HoldsProblem, file_of_request, problem_file_of, MayHaveStopped}
 use Rattle.locus_core.specs.declared.work.Printable.{Printable}
 use Rattle.lists.specs.declared.memory.NoMemory.{NoMemory}
 use Rattle.locus_core.specs.declared.work.Refusal.{Refusal}
@@ -53,10 +58,14 @@ IsReportOf p (NoInverse number modulus) status text = (status ≡ 4) × (text �
 pub data WhyNot (request : Request) (files : Change FilesState) (stopper : Change StopperState) : Refusal → Type 0 where
   read_fault : (name : List ℕ) → file_of_request request ≡ Some name → HasFaultAt files name → Unchanged stopper
       → WhyNot request files stopper refusal.ReadFault
-  problem : (s : Sum) (bytes : List ℕ) (error : ProblemError) → request ≡ run s → Holds files s.file bytes
+  problem : (name bytes : List ℕ) (error : ProblemError) → problem_file_of request ≡ Some name → Holds files name bytes
       → reading bytes ≡ Err error → Unchanged files → Unchanged stopper → WhyNot request files stopper (refusal.Problem error)
   checkpoint : (s : Sum) (bytes : List ℕ) (error : CheckpointError) → request ≡ resume s → Holds files s.file bytes
       → IsCheckpointRefusal bytes error → Unchanged files → Unchanged stopper → WhyNot request files stopper (refusal.Checkpoint error)
+  tree : (name text : List ℕ) (p : ProblemView) (error : TreeTextError) → request ≡ rank name text → HoldsProblem files name p
+      → IsRefusal p.shape text error → Unchanged files → Unchanged stopper → WhyNot request files stopper (refusal.Tree error)
+  range : (name : List ℕ) (number : ℕ) (p : ProblemView) → request ≡ unrank name number → HoldsProblem files name p
+      → count_of p ≤ number → Unchanged files → Unchanged stopper → WhyNot request files stopper (refusal.Range (count_of p))
   no_memory : Unchanged files → MayHaveStopped request stopper → WhyNot request files stopper refusal.NoMemory
 
 -- the answer of a step that fails for want of memory alone
@@ -69,6 +78,12 @@ abbrev pub IsWork : Request → Change FilesState → Change StopperState → Re
 IsWork request files stopper (Ok p) = Unchanged files × Comes files stopper p.shares request (code_of p.status) p.text.items
 IsWork request files stopper (Err r) = WhyNot request files stopper r
 
+-- the problem of a file, or why nothing is printed of a request for it
+abbrev pub IsProblemOf : List ℕ → Change FilesState → Result Problem Refusal → Type 0
+IsProblemOf name files (Ok p) = Unchanged files × HoldsProblem files name (problem_view p)
+IsProblemOf name files (Err r) = (request : Request) (stopper : Change StopperState) → problem_file_of request ≡ Some name
+    → Unchanged stopper → WhyNot request files stopper r
+
 -- the text was written whole and its status is the answer, or status 7 tells that it was not
 pub data Prints (out err : Change SinkState) (status : ℕ) (text : List ℕ) (answer : ℕ) : Type 0 where
   whole : answer ≡ status → TakesText out text → Unchanged err → Prints out err status text answer
@@ -80,11 +95,15 @@ pub data Refuses (err : Change SinkState) (answer : ℕ) : Refusal → Type 0 wh
   problem : (error : ProblemError) → answer ≡ 3 → Sends err (refused_line error) → Refuses err answer (refusal.Problem error)
   checkpoint : (error : CheckpointError) → answer ≡ 8 → Sends err (refused_checkpoint_line error)
       → Refuses err answer (refusal.Checkpoint error)
+  tree : (error : TreeTextError) → answer ≡ 11 → Sends err (refused_tree_line error) → Refuses err answer (refusal.Tree error)
+  range : (count : ℕ) → answer ≡ 10 → Sends err (refused_range_line count) → Refuses err answer (refusal.Range count)
   no_memory : answer ≡ 9 → Sends err (codes "want of memory\n") → Refuses err answer refusal.NoMemory
   unheard_problem : (error : ProblemError) → answer ≡ 9 → Sends err (codes "want of memory\n")
       → Refuses err answer (refusal.Problem error)
   unheard_checkpoint : (error : CheckpointError) → answer ≡ 9 → Sends err (codes "want of memory\n")
       → Refuses err answer (refusal.Checkpoint error)
+  unheard_tree : (error : TreeTextError) → answer ≡ 9 → Sends err (codes "want of memory\n") → Refuses err answer (refusal.Tree error)
+  unheard_range : (count : ℕ) → answer ≡ 9 → Sends err (codes "want of memory\n") → Refuses err answer (refusal.Range count)
 
 -- a text is told with status 2 of words that ask for nothing, or want of memory with status 9
 pub data RefusesWords (words : List (List ℕ)) (err : Change SinkState) (answer : ℕ) : Type 0 where

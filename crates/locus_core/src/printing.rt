@@ -2,7 +2,7 @@
 
 ghost use Rattle.std.specs.Prelude.{◌≡◌, [], codes, IfOk, IsErr};
 ghost use Rattle.report.specs.Statuses.{code_of};
-ghost use Rattle.locus_core.specs.Texts.{refused_line, refused_checkpoint_line};
+ghost use Rattle.locus_core.specs.Texts.{refused_line, refused_checkpoint_line, refused_tree_line, refused_range_line};
 ghost use Rattle.locus_core.specs.Outside.{sink_change, Sends};
 ghost use Rattle.locus_core.specs.Steps.{Prints, Refuses};
 
@@ -14,6 +14,7 @@ use problem_toml::ProblemError;
 use report::Status;
 use residue::NoMemory;
 use std::alloc::Global;
+use tree_text::TreeTextError;
 use worker_pool::Shares;
 
 /// Writes a text whole and flushes it; if the output does not take it, the run ends with a write fault.
@@ -55,6 +56,8 @@ pub(crate) fn refuse<E: Sink>(alloc: Global, err: &mut E, refusal: Refusal) -> A
             Status::CheckpointRefused,
             checkpoint_line(alloc, &error),
         ),
+        Refusal::Tree(error) => end_with(err, Status::TreeRefused, tree_line(alloc, &error)),
+        Refusal::Range(count) => end_with(err, Status::RangeRefused, range_line(alloc, count)),
     }
 }
 
@@ -108,4 +111,21 @@ fn checkpoint_line(alloc: Global, error: &CheckpointError) -> Result<Vec<u8>, No
     let mut line = checkpoint::refusal_line(alloc, error)?;
     line.push(b'\n')?;
     Ok(line)
+}
+
+/// The line of a refused text of a tree with its line feed.
+fn tree_line(alloc: Global, error: &TreeTextError) -> Result<Vec<u8>, NoMemory>
+    ensures { IfOk result (λ line. line.items ≡ refused_tree_line error.now) }
+{
+    let mut line = tree_text::refusal_line(alloc, error)?;
+    line.push(b'\n')?;
+    Ok(line)
+}
+
+/// The line of a number that is not below the number of trees, with its line feed.
+fn range_line(alloc: Global, count: u64) -> Result<Vec<u8>, NoMemory>
+    ensures { IfOk result (λ line. line.items ≡ refused_range_line count) }
+{
+    let line = format!(in alloc; "range refused {count}\n")?;
+    Ok(Vec::from_slice(alloc, line.as_bytes())?)
 }

@@ -11,6 +11,7 @@ use worker_pool::Gate;
 mod cases;
 mod faults;
 mod meeting;
+mod numbers;
 mod pauses;
 mod refusals;
 mod sums;

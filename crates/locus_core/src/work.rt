@@ -9,6 +9,7 @@ ghost use Rattle.report.specs.Statuses.{code_of};
 ghost use Rattle.locus_core.specs.Outside.{Unchanged, files_change, stopper_change, HasFaultAt};
 ghost use Rattle.locus_core.specs.Steps.{IsWork, Loads, as_refusal};
 
+use crate::numbers::{rank, unrank};
 use crate::sums::{go_on, soak};
 use checkpoint::{CheckpointError, fresh};
 use command_line::{Command, RunRequest};
@@ -18,10 +19,11 @@ use report::Status;
 use residue::NoMemory;
 use std::alloc::Global;
 use std::thread::Threads;
+use tree_text::TreeTextError;
 use worker_pool::{Gate, Shares};
 
 /// The greatest number of bytes that a problem text has.
-const MOST_PROBLEM: u64 = 1_048_576;
+pub(crate) const MOST_PROBLEM: u64 = 1_048_576;
 
 /// The greatest number of bytes that a checkpoint has.
 const MOST_CHECKPOINT: u64 = 1_052_672;
@@ -46,12 +48,16 @@ pub(crate) enum Refusal {
     Problem(ProblemError),
     /// The bytes of the file are the text of no state.
     Checkpoint(CheckpointError),
+    /// The text is that of no decorated tree of the problem.
+    Tree(TreeTextError),
+    /// The number is not below the number of the decorated trees of the problem, which is this.
+    Range(u64),
     /// The system gave no memory.
     NoMemory,
 }
 
 /// The answer of a step that fails for want of memory alone.
-fn or_refusal(given: Result<Printable, NoMemory>) -> Result<Printable, Refusal>
+pub(crate) fn or_refusal(given: Result<Printable, NoMemory>) -> Result<Printable, Refusal>
     ensures { result ≡ as_refusal given }
 {
     match given {
@@ -86,6 +92,8 @@ pub(crate) fn work<R: Threads + Sync, F: Files, S: Stopper, G: Gate>(
             stopper,
             gate,
         )),
+        Command::Rank { file, text } => rank(alloc, files, file, text),
+        Command::Unrank { file, number } => unrank(alloc, files, file, number),
         _ => unreachable!(),
     }
 }
@@ -152,7 +160,12 @@ fn resume<R: Threads + Sync, F: Files, S: Stopper, G: Gate>(
 
 /// The bytes of a file, of a longer one no more than one byte past `most`, so that it is seen to be too long.
 #[tactic(auto, unfolding(crate::specs::Steps::loaded))]
-fn load<F: Files>(alloc: Global, files: &mut F, name: &str, most: u64) -> Result<Vec<u8>, LoadError>
+pub(crate) fn load<F: Files>(
+    alloc: Global,
+    files: &mut F,
+    name: &str,
+    most: u64,
+) -> Result<Vec<u8>, LoadError>
     requires { most < 2 ^ 32 }
     ensures found { IfOk result (λ bytes.
         Loads most (files_change F.content F.faults F.last_fault files.old files.new) name.now bytes.items) }

@@ -14,3 +14,5 @@ code_of status.ReadFault = 6
 code_of status.WriteFault = 7
 code_of status.CheckpointRefused = 8
 code_of status.NoMemory = 9
+code_of status.RangeRefused = 10
+code_of status.TreeRefused = 11

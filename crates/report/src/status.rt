@@ -6,7 +6,7 @@ ghost use Rattle.report.specs.Statuses.{code_of};
 /// How a run ends. A report of a sum has one of the first three.
 #[derive(Clone, Copy, Debug, PartialEq, Eq, Drop)]
 pub enum Status {
-    /// The sums are done with a fraction for each integral, or a problem was made.
+    /// The sums are done with a fraction for each integral, or another text that was asked for was made.
     Done,
     /// The sums are done, and for some integral no fraction within the bounds agrees with its residues.
     NoFraction,
@@ -26,10 +26,14 @@ pub enum Status {
     WriteFault,
     /// The system gave no memory.
     NoMemory,
+    /// The number is not below the number of trees.
+    RangeRefused,
+    /// The text is that of no decorated tree of the problem.
+    TreeRefused,
 }
 
 impl Status {
-    /// The exit status of the program, from 0 to 9.
+    /// The exit status of the program, from 0 to 11.
     pub fn code(self) -> u8
         ensures { result ≡ code_of self }
     {
@@ -44,6 +48,8 @@ impl Status {
             Status::WriteFault => 7,
             Status::CheckpointRefused => 8,
             Status::NoMemory => 9,
+            Status::RangeRefused => 10,
+            Status::TreeRefused => 11,
         }
     }
 }

@@ -1,6 +1,6 @@
 use Rattle.std.proofs.Common.{sym, subst}
 use Rattle.locus_core.specs.Steps.{Refuses, read_fault, no_memory}
-use Rattle.locus_core.proofs.Ended.{problem_refuses, checkpoint_refuses}
+use Rattle.locus_core.proofs.Ended.{problem_refuses, checkpoint_refuses, tree_refuses, range_refuses}
 use Rattle.locus_core.proofs.printing.refuse.Goals as goal
 
 pub returns-in-ReadFault-clause-refuses : goal.returns-in-ReadFault-clause-refuses
@@ -19,3 +19,13 @@ pub returns-in-Checkpoint-clause-refuses : goal.returns-in-Checkpoint-clause-ref
 returns-in-Checkpoint-clause-refuses g c =
     subst (Refuses _ _) (sym c.in-Checkpoint.is)
     (checkpoint_refuses (λ line. line.items) _ _ c.in-Checkpoint.error c.checkpoint_line.result c.checkpoint_line.ensures c.end_with-in-Checkpoint.ensures.line c.end_with-in-Checkpoint.ensures.no_line)
+
+pub returns-in-Tree-clause-refuses : goal.returns-in-Tree-clause-refuses
+returns-in-Tree-clause-refuses g c =
+    subst (Refuses _ _) (sym c.in-Tree.is)
+    (tree_refuses (λ line. line.items) _ _ c.in-Tree.error c.tree_line.result c.tree_line.ensures c.end_with-in-Tree.ensures.line c.end_with-in-Tree.ensures.no_line)
+
+pub returns-in-Range-clause-refuses : goal.returns-in-Range-clause-refuses
+returns-in-Range-clause-refuses g c =
+    subst (Refuses _ _) (sym c.in-Range.is)
+    (range_refuses (λ line. line.items) _ _ c.in-Range.count c.range_line.result c.range_line.ensures c.end_with-in-Range.ensures.line c.end_with-in-Range.ensures.no_line)

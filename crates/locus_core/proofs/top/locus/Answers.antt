@@ -3,6 +3,7 @@ use Rattle.locus_core.proofs.Decided as decisions
 use Rattle.locus_core.proofs.Headline as headline
 use Rattle.locus_core.proofs.Stops as stopping
 use Rattle.locus_core.proofs.Chains as chaining
+use Rattle.locus_core.proofs.Numbering as numbering
 use Rattle.locus_core.proofs.top.locus.Goals as goal
 
 pub returns-clause-known : goal.returns-clause-known
@@ -46,3 +47,12 @@ returns-clause-stops g c = stopping.stops _ _ c.end.ensures
 
 pub returns-clause-chains : goal.returns-clause-chains
 returns-clause-chains g c = chaining.ends_chains _ _ c.end.ensures
+
+pub returns-clause-numbers : goal.returns-clause-numbers
+returns-clause-numbers g c = numbering.numbers _ _ c.end.ensures
+
+pub returns-clause-choice : goal.returns-clause-choice
+returns-clause-choice g c = numbering.decides _ _ c.end.ensures
+
+pub returns-clause-inverse : goal.returns-clause-inverse
+returns-clause-inverse g c = numbering.undoes _ _ c.end.ensures

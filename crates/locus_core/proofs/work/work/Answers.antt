@@ -18,3 +18,15 @@ returns-in-Soak g c =
     let stopper = stopper_change g.S.Stopper.stops g.S.Stopper.last_stop c.args.stopper.now c.soak.new.stopper in
     subst (λ command. IsWork (request_of command) files stopper c.or_refusal-in-Soak.result) (sym c.in-Soak.is)
     (soak_works files stopper c.in-Soak.number c.in-Soak.workers c.soak.result c.or_refusal-in-Soak.result c.or_refusal-in-Soak.ensures refl c.soak.ensures.done c.soak.ensures.no_memory)
+
+pub returns-in-Rank : goal.returns-in-Rank
+returns-in-Rank g c =
+    let files = files_change g.F.Files.content g.F.Files.faults g.F.Files.last_fault c.args.files.now c.rank.new.files in
+    let stopper = stopper_change g.S.Stopper.stops g.S.Stopper.last_stop c.args.stopper.now c.args.stopper.now in
+    subst (λ command. IsWork (request_of command) files stopper c.rank.result) (sym c.in-Rank.is) (c.rank.ensures stopper refl)
+
+pub returns-in-Unrank : goal.returns-in-Unrank
+returns-in-Unrank g c =
+    let files = files_change g.F.Files.content g.F.Files.faults g.F.Files.last_fault c.args.files.now c.unrank.new.files in
+    let stopper = stopper_change g.S.Stopper.stops g.S.Stopper.last_stop c.args.stopper.now c.args.stopper.now in
+    subst (λ command. IsWork (request_of command) files stopper c.unrank.result) (sym c.in-Unrank.is) (c.unrank.ensures stopper refl)
