@@ -43,7 +43,7 @@ ALL = {
     "batch": ([TEXT], 1, WORKERS),
     "cross": (FILES_8, 2, WORKERS),
 }
-BUILT = {name: ALL[name] for name in ("run", "resume", "make", "soak")}
+BUILT = {name: ALL[name] for name in ("run", "resume", "make", "soak", "rank", "unrank")}
 
 
 def value_of(kind, text):

@@ -1,4 +1,4 @@
-"""Makes calls of the program by chance: problems, checkpoints and arguments, whole or broken in one or two ways.
+"""Makes calls of the program by chance: problems, checkpoints, texts of trees and arguments, whole or broken in some ways.
 
 A call is fixed by a seed and its number, whatever else is made.
 """
@@ -6,11 +6,14 @@ A call is fixed by a seed and its number, whatever else is made.
 import random
 from dataclasses import dataclass
 
-from . import checkpoint, models, problem as problems, toml
+from . import checkpoint, models, problem as problems, toml, trees
 from .spelling import Writer
 
 # How much summing a call may ask for: trees times moduli times terms and classes.
 MOST_WORK = 1200
+
+# The most trees that a problem may have.
+MOST_TREES = 2**40
 
 # Lines for the front of a document, or for its end if they begin with a header. Some are TOML and some are not.
 SNIPPETS = (
@@ -53,7 +56,7 @@ WORDS = (
     b"--workers=2", b"--budget=1", b"--stop-file=s", b"--workers=", b"--=", b"--=x", b"-", b"--", b"", b"-x",
     b"--help", b"-h", b"help", b"--version", b"-V", b"1", b"64", b"65", b"0", b"007", b"+5", b"-1", b" 1", b"1_0",
     b"1099511627776", b"1099511627777", b"18446744073709551616", b"4294967295", b"4294967296", b"\xff", b"\xc3\xa9",
-    b"trees", b"--Workers", b"--work", b"-w", b"a=b", b"--workers=+064", b"--budget=1099511627776", b"9"*400,
+    b"rank", b"unrank", b"edges 0-1:1 colours 0 1 marks -", b"trees", b"--Workers", b"--work", b"-w", b"a=b", b"--workers=+064", b"--budget=1099511627776", b"9"*400,
 )
 
 
@@ -68,7 +71,7 @@ class Call:
 def call(seed, number):
     """The call of a number."""
     chance = random.Random(f"{seed} {number}")
-    make = chance.choices((of_problem, of_checkpoint, of_words, of_number), (66, 22, 11, 1))[0]
+    make = chance.choices((of_problem, of_checkpoint, of_words, of_trees, of_number), (60, 20, 11, 8, 1))[0]
     return make(chance)
 
 
@@ -113,10 +116,69 @@ def of_words(chance):
     count = chance.choice((0, 1, 2, 3, 3, 4, 5))
     words = [chance.choice(WORDS) for _ in range(count)]
     if words and chance.random() < 0.8:
-        words[0] = chance.choice((b"run", b"resume", b"make", b"soak"))
+        words[0] = chance.choice((b"run", b"resume", b"make", b"soak", b"rank", b"unrank"))
         words[1:1] = [chance.choice((b"text", b"no-such-file", b"0", b"+2", b"4294967295"))] * chance.choice((0, 1, 1))
     is_long = words[:1] == [b"soak"] and any(word.lstrip(b"+0")[-1:] in b"13579" for word in words[1:] if word)
     return Call([b"soak", b"--workers"] if is_long else words, models_text(chance, 0))
+
+
+def of_trees(chance):
+    """A call of `rank` or of `unrank`."""
+    text = models_text(chance, 0) if chance.random() < 0.9 else hostile_text(chance)
+    try:
+        problem = problems.read(text)
+    except problems.Refused:
+        return Call([b"unrank", b"text", b"0"], text)
+    count = problem.count()
+    if chance.random() < 0.4:
+        number = chance.choice((0, count - 1, count, count + 1, MOST_TREES, chance.randrange(count)))
+        return Call([b"unrank", b"text", b"%d" % min(number, MOST_TREES)], text)
+    return Call([b"rank", b"text", hostile_tree(chance, problem)], text)
+
+
+def hostile_tree(chance, problem):
+    """The text of a tree of a problem: whole, broken, or of another shape."""
+    shape = [problem.rank, problem.degree, problem.marks]
+    way = chance.random()
+    if 0.6 < way < 0.75:
+        index = chance.randrange(3)
+        shape[index] = max(index < 2, shape[index] + chance.choice((-1, 1)))
+    tree = trees.tree_of(chance.randrange(trees.count(*shape)), *shape)
+    if 0.4 < way < 0.6:
+        change_the_tree(chance, tree)
+    text = tree.text().encode()
+    if way > 0.75:
+        text = chance.choice((cut, change_a_letter, change_a_letter, repeat_a_part))(chance, text)
+    return text if text and not text.startswith(b"-") else b"edges"
+
+
+def change_the_tree(chance, tree):
+    """One number of a tree is another, or two of its edges are exchanged."""
+    way = chance.randrange(4)
+    if way == 0 and len(tree.edges) > 1:
+        first, second = chance.sample(range(len(tree.edges)), 2)
+        tree.edges[first], tree.edges[second] = tree.edges[second], tree.edges[first]
+    elif way == 1:
+        place = chance.randrange(len(tree.edges))
+        tree.edges[place] = chance.choice((tree.edges[place][::-1], (0, 1), (99, 0), (10, 11)))
+    elif way == 2 and tree.marks:
+        tree.marks[chance.randrange(len(tree.marks))] = chance.choice((0, len(tree.colours), 99))
+    else:
+        tree.colours[chance.randrange(len(tree.colours))] = chance.randrange(100)
+
+
+def change_a_letter(chance, text):
+    """Another letter in the place of one, or one more or fewer."""
+    place = chance.randrange(len(text) + 1)
+    letter = chance.choice((b"0", b"1", b"9", b" ", b"-", b":", b"x", b"\t", b"\n", b"\xc3\xa9", b""))
+    return text[:place] + letter + text[place + chance.choice((0, 1)) :]
+
+
+def repeat_a_part(chance, text):
+    """One of the words of a text several times."""
+    words = text.split(b" ")
+    place = chance.randrange(len(words))
+    return b" ".join(words[:place] + [words[place]] * chance.choice((0, 2, 11, 12)) + words[place + 1 :])
 
 
 def of_number(chance):

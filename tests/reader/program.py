@@ -13,7 +13,7 @@ if __package__ in (None, ""):
     sys.path.insert(0, str(pathlib.Path(__file__).resolve().parent.parent))
 
 
-from reader import checkpoint, problem as problems, sums  # noqa: E402
+from reader import checkpoint, problem as problems, sums, trees  # noqa: E402
 
 MOST_TREES = 2**40
 NUMBER = re.compile(rb"\+?[0-9]+")
@@ -22,8 +22,11 @@ OPTIONS = {
     "resume": (b"--workers", b"--budget", b"--stop-file"),
     "make": (),
     "soak": (b"--workers",),
+    "rank": (),
+    "unrank": (),
 }
-LIMITS = {b"--workers": (1, 64), b"--budget": (1, MOST_TREES), "number": (0, 2**32 - 1)}
+TWO_WORDS = ("rank", "unrank")
+LIMITS = {b"--workers": (1, 64), b"--budget": (1, MOST_TREES), "number": (0, 2**32 - 1), "tree": (0, MOST_TREES)}
 
 # Stands for a text of which docs/FORMATS.md says no more than that it is there.
 SOME_TEXT = None
@@ -44,6 +47,7 @@ class Request:
 
     command: str
     plain: bytes
+    second: bytes | None
     options: dict
 
     def number(self, name, otherwise):
@@ -97,14 +101,16 @@ def asked(words):
         raise NotTaken
     command = words[0].decode()
     plain, options = split_words(words[1:], OPTIONS[command])
-    if len(plain) != 1:
+    if len(plain) != (2 if command in TWO_WORDS else 1):
         raise NotTaken
     for name, value in options.items():
         if name in LIMITS:
             check_number(value, *LIMITS[name])
     if command in ("make", "soak"):
         check_number(plain[0], *LIMITS["number"])
-    return Request(command, plain[0], options)
+    if command == "unrank":
+        check_number(plain[1], *LIMITS["tree"])
+    return Request(command, plain[0], plain[1] if command in TWO_WORDS else None, options)
 
 
 def split_words(words, known):
@@ -134,18 +140,40 @@ def check_number(text, least, most):
 
 
 def of_file(request, folder):
-    """How `run` and `resume` end."""
+    """How a call ends that is of a file."""
     try:
         text = (folder / request.plain.decode()).read_bytes()
     except (OSError, ValueError):
         return Ending(6, err=b"read fault\n")
     try:
-        state = checkpoint.begin(text) if request.command == "run" else checkpoint.read(text)
+        state = checkpoint.read(text) if request.command == "resume" else checkpoint.begin(text)
     except problems.Refused as refusal:
         return Ending(3, err=f"problem refused {refusal.told}\n".encode())
     except checkpoint.Refused as refusal:
         return Ending(8, err=f"checkpoint refused {refusal.told}\n".encode())
+    if request.command == "rank":
+        return ranked(state.problem, request.second)
+    if request.command == "unrank":
+        return unranked(state.problem, int(request.second))
     return summed(state, request.number(b"--budget", MOST_TREES), b"")
+
+
+def ranked(problem, text):
+    """How `rank` ends."""
+    shape = problem.rank, problem.degree, problem.marks
+    try:
+        tree = trees.read(text, *shape)
+    except trees.Refused as refusal:
+        return Ending(11, err=f"tree refused {refusal.told}\n".encode())
+    return Ending(0, out=b"number %d\n" % trees.number_of(tree, *shape))
+
+
+def unranked(problem, number):
+    """How `unrank` ends."""
+    if number >= problem.count():
+        return Ending(10, err=b"range refused %d\n" % problem.count())
+    tree = trees.tree_of(number, problem.rank, problem.degree, problem.marks)
+    return Ending(0, out=tree.text().encode() + b"\n")
 
 
 def summed(state, budget, head):
