@@ -1,7 +1,6 @@
 //! Degrees by hand.
 
-use crate::{Class, Integrals, Power, Powers, Term, Terms};
-use std::test::Fail;
+use crate::Class;
 
 #[test]
 fn degrees_of_classes(rt: HostRuntime) {
@@ -16,25 +15,4 @@ fn degrees_of_classes(rt: HostRuntime) {
     assert_eq!(rt; Class::R1 { k: 1 }.degree(1), 0);
     assert_eq!(rt; Class::Contact.degree(3), 5);
     assert_eq!(rt; Class::Psi { mark: 1 }.degree(7), 1);
-}
-
-#[test]
-fn terms_and_integrals(rt: HostRuntime) -> Result<(), Fail> {
-    let twice = Power {
-        class: Class::R1 { k: 1 },
-        power: 2,
-    };
-    let term = Term {
-        coefficient: -3,
-        classes: Powers::of(vec![in rt.alloc(); twice]?),
-    };
-    let integrals = Integrals::of(vec![in rt.alloc(); Terms::of(vec![in rt.alloc(); term]?)]?);
-    assert_eq!(rt; integrals.len(), 1);
-    assert_eq!(rt; integrals.get(0).len(), 1);
-    assert_eq!(rt; integrals.get(0).get(0).coefficient, -3);
-    assert_eq!(rt;
-        integrals.get(0).get(0).classes.as_slice(),
-        [twice].as_slice()
-    );
-    Ok(())
 }

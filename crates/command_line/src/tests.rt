@@ -1,5 +1,4 @@
 //! Lists of arguments with what they ask, and the text of messages.
-mod lists;
 mod messages;
 mod random;
 
@@ -57,69 +56,6 @@ fn first_wrong(alloc: Global, commands: Commands, text: &str) -> Result<String, 
         }
     }
     Ok(String::new(alloc))
-}
-
-#[test]
-fn words_are_taken(rt: HostRuntime) -> Result<(), Fail> {
-    let wrong = first_wrong(rt.alloc(), Commands::All, lists::TAKEN)?;
-    assert_eq!(rt; wrong.as_str(), "");
-    Ok(())
-}
-
-#[test]
-fn words_are_refused_by_the_command(rt: HostRuntime) -> Result<(), Fail> {
-    let wrong = first_wrong(rt.alloc(), Commands::All, lists::BY_COMMAND)?;
-    assert_eq!(rt; wrong.as_str(), "");
-    Ok(())
-}
-
-#[test]
-fn words_are_refused_at_the_first_look(rt: HostRuntime) -> Result<(), Fail> {
-    let wrong = first_wrong(rt.alloc(), Commands::All, lists::AT_FIRST_LOOK)?;
-    assert_eq!(rt; wrong.as_str(), "");
-    Ok(())
-}
-
-#[test]
-fn random_words_ask_what_they_say_1(rt: HostRuntime) -> Result<(), Fail> {
-    let wrong = first_wrong(rt.alloc(), Commands::All, random::ALL_1)?;
-    assert_eq!(rt; wrong.as_str(), "");
-    Ok(())
-}
-
-#[test]
-fn random_words_ask_what_they_say_2(rt: HostRuntime) -> Result<(), Fail> {
-    let wrong = first_wrong(rt.alloc(), Commands::All, random::ALL_2)?;
-    assert_eq!(rt; wrong.as_str(), "");
-    Ok(())
-}
-
-#[test]
-fn random_words_ask_what_they_say_3(rt: HostRuntime) -> Result<(), Fail> {
-    let wrong = first_wrong(rt.alloc(), Commands::All, random::ALL_3)?;
-    assert_eq!(rt; wrong.as_str(), "");
-    Ok(())
-}
-
-#[test]
-fn random_words_ask_what_they_say_4(rt: HostRuntime) -> Result<(), Fail> {
-    let wrong = first_wrong(rt.alloc(), Commands::All, random::ALL_4)?;
-    assert_eq!(rt; wrong.as_str(), "");
-    Ok(())
-}
-
-#[test]
-fn random_words_ask_what_they_say_5(rt: HostRuntime) -> Result<(), Fail> {
-    let wrong = first_wrong(rt.alloc(), Commands::All, random::ALL_5)?;
-    assert_eq!(rt; wrong.as_str(), "");
-    Ok(())
-}
-
-#[test]
-fn random_words_ask_what_they_say_6(rt: HostRuntime) -> Result<(), Fail> {
-    let wrong = first_wrong(rt.alloc(), Commands::All, random::ALL_6)?;
-    assert_eq!(rt; wrong.as_str(), "");
-    Ok(())
 }
 
 #[test]

@@ -1,7 +1,5 @@
 //! Contributions by exact fractions, whose tops and bottoms were computed as whole numbers of any size.
 
-mod table;
-
 use super::*;
 use decorated_tree::{Shape, Tree};
 use prufer::Edges;
@@ -13,9 +11,6 @@ use tree_parts::TreeParts;
 
 /// 2^62 - 1 = 3 * 715827883 * 2147483647, the greatest modulus.
 const GREATEST: u64 = 4_611_686_018_427_387_903;
-
-/// A prime near 2^62.
-const PRIME: u64 = 4_611_686_018_427_387_847;
 
 /// A tree that is written down by hand.
 struct Drawn {
@@ -171,77 +166,5 @@ fn psi_classes(rt: HostRuntime) -> Result<(), Fail> {
         Some(0),
         "above the dimension"
     );
-    Ok(())
-}
-
-#[test]
-fn several_terms(rt: HostRuntime) -> Result<(), Fail> {
-    let alloc = rt.alloc();
-    let psi = |mark: u8| power(Class::Psi { mark }, 1);
-    let mark = |mark: u8, exponent: u8| power(Class::Mark { mark }, exponent);
-    let incidence = power(Class::Incidence { q: 2 }, 1);
-    let sum = Terms::of(vec![in alloc;
-        term(alloc, 2, &[psi(1), mark(2, 2)])?,
-        term(alloc, -5, &[psi(4), incidence])?,
-    ]?);
-    let found = residue_at(&rt, &[1, 3], &sum, MARKED_PATH, PRIME)?;
-    assert_eq!(rt; found, Some(1_969_574_237_036_696_893), "two terms");
-    let five = [1, 10, 100, 1000, 10_000];
-    let quintic = power(Class::Hypersurface { b: 5 }, 1);
-    let contact = power(Class::Contact, 2);
-    let large = Terms::of(vec![in alloc;
-        term(alloc, 7, &[quintic])?,
-        term(
-            alloc,
-            -1_000_000_000,
-            &[mark(4, 3), psi(1), psi(2), contact]
-        )?,
-    ]?);
-    let found = residue_at(&rt, &five, &large, STAR, PRIME)?;
-    assert_eq!(rt; found, Some(1_296_364_964_188_416_103), "a star");
-    let none = Terms::of(Vec::new(alloc));
-    let found = residue_at(&rt, &five, &none, STAR, PRIME)?;
-    assert_eq!(rt; found, Some(0), "no term");
-    Ok(())
-}
-
-fn at_number(
-    rt: &impl Abort,
-    setup: &Setup,
-    terms: &Terms,
-    shape: &Shape,
-    k: u64,
-    modulus: &Modulus,
-) -> Result<Option<u64>, Fail> {
-    assert!(rt; shape.d() <= 10 && shape.m() <= 12);
-    if shape.r() != setup.rank() || k >= shape.count() {
-        return Err("no such tree".into());
-    }
-    let tree = shape.tree(k);
-    assert!(rt; are_terms_for(terms, tree.m));
-    Ok(tree_contribution(setup, terms, &tree, modulus).ok())
-}
-
-#[test]
-fn all_trees_of_degree_two(rt: HostRuntime) -> Result<(), Fail> {
-    let alloc = rt.alloc();
-    let shape = Shape::new(1, 2, 0).ok().ok_or("refused")?;
-    let setup = Setup::new(&[1, 3])?;
-    let modulus = Modulus::new(101)?;
-    let terms = Terms::of(vec![in alloc; term(alloc, 1, &[power(Class::R1 { k: 1 }, 2)])?]?);
-    // -1/4, 1/48 and 9/48, which add up to 1/8.
-    for (k, residue) in [
-        (0, 25),
-        (1, 25),
-        (2, 40),
-        (3, 57),
-        (4, 57),
-        (5, 40),
-        (6, 57),
-        (7, 40),
-    ] {
-        let found = at_number(&rt, &setup, &terms, &shape, k, &modulus)?;
-        assert_eq!(rt; found, Some(residue), "tree {k}");
-    }
     Ok(())
 }

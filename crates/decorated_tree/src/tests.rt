@@ -1,6 +1,6 @@
 //! Trees of small shapes, numbered by hand.
 
-use crate::{NotOfShape, Shape, ShapeError, Tree, write_text};
+use crate::{Shape, Tree, write_text};
 use std::alloc::Global;
 use std::test::Fail;
 
@@ -14,42 +14,6 @@ fn text(alloc: Global, tree: &Tree) -> Result<Vec<u8>, Fail> {
     let mut text = Vec::new(alloc);
     write_text(tree, &mut text).ok().ok_or("want of memory")?;
     Ok(text)
-}
-
-#[test]
-fn counts_the_trees(rt: HostRuntime) -> Result<(), Fail> {
-    let table = [
-        ((1, 1, 0), 2),
-        ((1, 2, 0), 8),
-        ((3, 1, 0), 12),
-        ((1, 2, 1), 22),
-        ((1, 1, 4), 32),
-        ((2, 2, 0), 42),
-        ((4, 2, 0), 260),
-        ((4, 3, 0), 5_620),
-        ((2, 2, 5), 8_940),
-        ((4, 4, 0), 176_100),
-        ((3, 3, 1), 7_584),
-    ];
-    for ((r, d, m), count) in table {
-        assert_eq!(rt; shape(r, d, m)?.count(), count);
-    }
-    Ok(())
-}
-
-#[test]
-fn refuses_in_order(rt: HostRuntime) {
-    let table = [
-        ((4, 8, 0), ShapeError::TooManyTrees),
-        ((0, 1, 0), ShapeError::OutOfLimits),
-        ((13, 1, 0), ShapeError::OutOfLimits),
-        ((1, 0, 0), ShapeError::OutOfLimits),
-        ((1, 11, 0), ShapeError::OutOfLimits),
-        ((1, 1, 13), ShapeError::OutOfLimits),
-    ];
-    for ((r, d, m), error) in table {
-        assert_eq!(rt; Shape::new(r, d, m).map(|shape| shape.count()), Err(error));
-    }
 }
 
 #[test]
@@ -86,40 +50,5 @@ fn one_tree_goes_through_all_numbers(rt: HostRuntime) -> Result<(), Fail> {
         assert_eq!(rt; tree, shape.tree(k + 1));
     }
     assert_eq!(rt; shape.number(&tree), Ok(7583));
-    Ok(())
-}
-
-#[test]
-fn refuses_trees_of_other_shapes(rt: HostRuntime) -> Result<(), Fail> {
-    let shape = shape(3, 3, 1)?;
-    if shape.count() == 0 {
-        return Err("no trees".into());
-    }
-    let first = shape.tree(0);
-    let mut equal_ends = first;
-    equal_ends.colours[1] = 0;
-    let mut great_colour = first;
-    great_colour.colours[1] = 4;
-    let mut other_sum = first;
-    other_sum.degrees[0] = 2;
-    let mut great_mark = first;
-    great_mark.marks[0] = 2;
-    let mut more_marks = first;
-    more_marks.m = 2;
-    let mut unused_place = first;
-    unused_place.marks[1] = 1;
-    let mut no_tree = first;
-    no_tree.n = 3;
-    for tree in [
-        equal_ends,
-        great_colour,
-        other_sum,
-        great_mark,
-        more_marks,
-        unused_place,
-        no_tree,
-    ] {
-        assert_eq!(rt; shape.number(&tree), Err(NotOfShape));
-    }
     Ok(())
 }

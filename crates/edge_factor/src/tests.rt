@@ -1,7 +1,5 @@
 //! Values by exact fractions, whose tops and bottoms were computed as whole numbers of any size.
 
-mod table;
-
 use super::*;
 use std::test::Fail;
 
@@ -76,23 +74,6 @@ fn residues_of_edges(rt: HostRuntime) -> Result<(), Fail> {
     ] {
         let found = residue_at(&rt, weights, ends, degree, modulus)?;
         assert_eq!(rt; found, Some(residue), "degree {degree} modulo {modulus}");
-    }
-    Ok(())
-}
-
-#[test]
-fn bottoms_that_are_no_units(rt: HostRuntime) -> Result<(), Fail> {
-    for (weights, ends, degree, modulus) in [
-        // The difference of the weights is 3 or 0.
-        ([1, 4].as_slice(), (0, 1), 1, 9),
-        ([5, 5].as_slice(), (0, 1), 1, 101),
-        // The degree is a multiple of 3.
-        ([1, 3].as_slice(), (0, 1), 3, GREATEST),
-        // One colour's factor at t = 1 is 1 * 0 + 1 * 2 - 2 * 1 = 0, whatever the modulus.
-        ([0, 1, 2].as_slice(), (0, 2), 2, 101),
-    ] {
-        let found = residue_at(&rt, weights, ends, degree, modulus)?;
-        assert_eq!(rt; found, None, "degree {degree} modulo {modulus}");
     }
     Ok(())
 }

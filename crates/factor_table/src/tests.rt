@@ -71,52 +71,6 @@ fn ask(
 }
 
 #[test]
-fn a_second_seat_reads_what_the_first_has_filled(rt: HostRuntime) -> Result<(), Fail> {
-    let mut opened = open(&rt, rt.alloc(), &[1, 3], 2, &[101], &[R1])?;
-    assert_eq!(rt; opened.table.words(), 73);
-    for (key, factor) in [
-        (Key::Edge { i: 0, j: 1, a: 2 }, 38),
-        (
-            Key::Pair {
-                c: 0,
-                c1: 1,
-                a1: 1,
-                c2: 1,
-                a2: 1,
-            },
-            51,
-        ),
-        (
-            Key::ClassEdge {
-                class: 0,
-                i: 0,
-                j: 1,
-                a: 2,
-            },
-            99,
-        ),
-        // The vertex part -1 of the class at a vertex of weight 1 with two edges.
-        (
-            Key::ClassVertex {
-                class: 0,
-                c: 0,
-                s: 2,
-            },
-            100,
-        ),
-        // The tangent 1 - 3, the flag 2 over it, and the tip (3 - 1) over 2.
-        (Key::Tangent { c: 0 }, 99),
-        (Key::Flag { c: 0, u: 1, a: 2 }, 100),
-        (Key::Tip { c: 0, u: 1, a: 2 }, 1),
-    ] {
-        let first = ask(&rt, &opened.table, &mut opened.first, key, 0);
-        let second = ask(&rt, &opened.table, &mut opened.second, key, 0);
-        assert_eq!(rt; (first, second), (Some(factor), Some(factor)), "{key:?}");
-    }
-    Ok(())
-}
-
-#[test]
 fn both_seats_find_that_a_bottom_is_no_unit(rt: HostRuntime) -> Result<(), Fail> {
     for (degree, key, residue) in [
         (1, Key::Flag { c: 0, u: 1, a: 1 }, 67),
@@ -130,45 +84,6 @@ fn both_seats_find_that_a_bottom_is_no_unit(rt: HostRuntime) -> Result<(), Fail>
         let other = ask(&rt, &opened.table, &mut opened.second, key, 1);
         assert_eq!(rt; other, Some(residue), "{key:?} modulo 101");
     }
-    Ok(())
-}
-
-#[test]
-fn sizes_of_tables(rt: HostRuntime) {
-    let greatest = Sizes {
-        colours: 13,
-        degree: 10,
-        moduli: 8,
-        classes: 512,
-    };
-    assert_eq!(rt; Layout::new(greatest).words(), 9_253_005);
-    // 2 weights, a modulus, an edge, a flag and a tip for each of 4 pairs of colours, 2 tangents and 8 pairs.
-    let least = Sizes {
-        colours: 2,
-        degree: 1,
-        moduli: 1,
-        classes: 0,
-    };
-    assert_eq!(rt; Layout::new(least).words(), 25);
-}
-
-#[test]
-fn a_seat_that_is_split_off_and_joined_again(rt: HostRuntime) -> Result<(), Fail> {
-    let mut opened = open(&rt, rt.alloc(), &[1, 3], 2, &[101], &[])?;
-    let edge = Key::Edge { i: 0, j: 1, a: 2 };
-    let flag = Key::Flag { c: 1, u: 0, a: 1 };
-    let mut third = opened.table.split_seat(&mut opened.first);
-    assert_eq!(rt; ask(&rt, &opened.table, &mut third, edge, 0), Some(38));
-    opened.table.join_seat(&mut opened.first, third);
-    assert_eq!(rt;
-        ask(&rt, &opened.table, &mut opened.first, edge, 0),
-        Some(38)
-    );
-    // 1 over 3 - 1.
-    assert_eq!(rt;
-        ask(&rt, &opened.table, &mut opened.first, flag, 0),
-        Some(51)
-    );
     Ok(())
 }
 

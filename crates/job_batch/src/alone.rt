@@ -34,7 +34,11 @@ pub(crate) struct BadNumber {
 /// Sums all trees of a problem, in rounds of 65,536 numbers, and adds the sums to the residues, which are 0; or returns
 /// the least bad number of the first round that has one, and then the residues are of no use. What the part held before
 /// does not matter, but for its seat. It takes no memory.
-pub(crate) fn run_alone(sum: &TableSum, part: &mut PartSum, residues: &mut [u64]) -> Option<BadNumber>
+pub(crate) fn run_alone(
+    sum: &TableSum,
+    part: &mut PartSum,
+    residues: &mut [u64],
+) -> Option<BadNumber>
     requires residues { residues.old ≡ replicate (places_of (problem_view (problem_of sum.now))) 0 }
     requires seat { IsSeatOf part.old.seat (table_of sum.now) }
     ensures end { IsEnd (start_of (problem_view (problem_of sum.now))) (outcome_with result residues.new) }

@@ -23,7 +23,12 @@ pub(crate) struct EndedJob {
 }
 
 /// Runs the job of a state, over the table of its problem. It takes no memory.
-pub(crate) fn run_job(state: &State, table: &FactorTable, part: &mut PartSum, place: u32) -> EndedJob
+pub(crate) fn run_job(
+    state: &State,
+    table: &FactorTable,
+    part: &mut PartSum,
+    place: u32,
+) -> EndedJob
     requires fresh { IsFresh state.now }
     requires table { IsTableOf state.now.problem table.now }
     requires seat { IsSeatOf part.old.seat table.now }

@@ -24,7 +24,12 @@ fn next_place(seat: &mut Seat) -> Option<u32>
 }
 
 /// Runs jobs until the seat gives none, and notes each with its end. It takes no memory.
-pub(crate) fn work<G: Gate>(worker: &mut BatchWorker, states: &[State], tables: &[FactorTable], gate: &G)
+pub(crate) fn work<G: Gate>(
+    worker: &mut BatchWorker,
+    states: &[State],
+    tables: &[FactorTable],
+    gate: &G,
+)
     requires jobs { AreJobs states.now tables.now }
     requires at_work { IsAtWork states.now tables.now worker.old }
     ensures at_work { IsAtWork states.now tables.now worker.new }
@@ -52,6 +57,11 @@ fn run_next(worker: &mut BatchWorker, states: &[State], tables: &[FactorTable], 
     ensures number { worker.new.number ≡ worker.old.number }
 {
     let index = place as usize;
-    let job = run_job(&states[index], &tables[index], &mut worker.parts[index], place);
+    let job = run_job(
+        &states[index],
+        &tables[index],
+        &mut worker.parts[index],
+        place,
+    );
     worker.ended.push_reserved(job);
 }

@@ -88,22 +88,6 @@ fn cover_integrals(alloc: Global) -> Result<Integrals, Fail> {
 }
 
 #[test]
-fn sums_over_all_conics(rt: HostRuntime) -> Result<(), Fail> {
-    let alloc = rt.alloc();
-    // A conic meets a line in 2 points; and 3 * -2 + 2, since the psi class has the degree -2 on a conic.
-    for weights in [[1, 10, 11], [-5, 7, 11]] {
-        let problem = conics(alloc, &weights)?;
-        let count = problem.shape.count();
-        assert_eq!(rt; count, 120);
-        let total = sum_range(&problem, 0, count);
-        assert_eq!(rt; total.least, NONE_BAD, "under {weights:?}");
-        assert_eq!(rt; &total.sums[..4], [2, 2, 1_000_000_003, 97].as_slice());
-        assert_eq!(rt; total.sums[4], 0);
-    }
-    Ok(())
-}
-
-#[test]
 fn sums_over_ranges(rt: HostRuntime) -> Result<(), Fail> {
     let problem = conics(rt.alloc(), &[1, 10, 11])?;
     if problem.shape.count() < 120 {
@@ -143,36 +127,5 @@ fn names_the_least_bad_number(rt: HostRuntime) -> Result<(), Fail> {
     assert_eq!(rt; first_bad_modulus(&problem, 0), None);
     assert_eq!(rt; first_bad_modulus(&problem, 2), Some(1u8));
     assert_eq!(rt; first_bad_modulus(&problem, 119), None);
-    Ok(())
-}
-
-#[test]
-fn goes_on_from_block_to_block(rt: HostRuntime) -> Result<(), Fail> {
-    // The trees of 2, 3 and 4 vertices have the numbers up to 115. Those of 5 vertices are bad for the modulus 5, which
-    // divides 5!.
-    let problem = covers(rt.alloc())?;
-    if problem.shape.count() < 366 {
-        return Err("too few trees".into());
-    }
-    for (first, end, sums) in [
-        (0, 64, [516_276_046, 0]),
-        (0, 65, [945_963_549, 3]),
-        (0, 116, [284_505_208, 4]),
-        (51, 115, [1_000_000_003, 1]),
-    ] {
-        let total = sum_range(&problem, first, end);
-        assert_eq!(rt; total.least, NONE_BAD, "from {first} to {end}");
-        assert_eq!(rt; &total.sums[..2], sums.as_slice(), "from {first} to {end}");
-    }
-    for (first, end, least) in [
-        (0, 366, 116),
-        (50, 117, 116),
-        (60, 366, 116),
-        (117, 366, 117),
-    ] {
-        let total = sum_range(&problem, first, end);
-        assert_eq!(rt; total.least, least, "from {first} to {end}");
-    }
-    assert_eq!(rt; first_bad_modulus(&problem, 116), Some(1u8));
     Ok(())
 }

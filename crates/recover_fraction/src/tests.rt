@@ -1,15 +1,11 @@
 //! Values by hand and by exact arithmetic with numbers of any size.
 
-use crate::{Fraction, agreeing_fraction, combine, combine_slice, recover};
-use residue::{Moduli, Modulus, Residues, coprime};
-use std::test::Fail;
+use crate::{Fraction, recover};
 
 /// 2^62 - 1, the greatest bound.
 const GREATEST: u64 = 4_611_686_018_427_387_903;
 
 const PRIME: u64 = 1_000_000_007;
-
-const NEXT_PRIME: u64 = 1_000_000_009;
 
 /// Below 2^126, and above twice the square of the greatest bound.
 const LARGE: u128 = 85_070_591_730_234_615_865_843_651_857_942_052_863;
@@ -58,83 +54,4 @@ fn fractions(rt: HostRuntime) {
         let wanted = fraction.map(|(top, bottom)| Fraction { top, bottom });
         assert_eq!(rt; recover(x, m, a, b), wanted, "{x} modulo {m}");
     }
-}
-
-#[test]
-fn no_modulus(rt: HostRuntime) {
-    let moduli = Moduli::of(Vec::new(rt.alloc()));
-    let residues = Residues::of(Vec::new(rt.alloc()));
-    assert_eq!(rt; combine(&moduli, &residues), 0);
-}
-
-#[test]
-fn two_moduli(rt: HostRuntime) -> Result<(), Fail> {
-    for (m, x, n, y, number) in [
-        (101, 38, 1001, 876, 37_913),
-        (3, 2, 5, 3, 8),
-        (PRIME, 27, NEXT_PRIME, 27, 27),
-        (
-            PRIME,
-            374_999_997,
-            NEXT_PRIME,
-            625_000_000,
-            375_000_006_000_000_018,
-        ),
-        (
-            GREATEST,
-            GREATEST - 1,
-            GREATEST - 2,
-            0,
-            10_633_823_966_279_326_976_312_927_454_601_674_752,
-        ),
-    ] {
-        let moduli = Moduli::of(vec![in rt.alloc(); Modulus::new(m)?, Modulus::new(n)?]?);
-        let residues = Residues::of(vec![in rt.alloc(); x, y]?);
-        assert!(rt; x < m && y < n && coprime(m, n));
-        assert!(rt; m as u128 * (n as u128) < 1 << 126);
-        assert_eq!(rt; combine(&moduli, &residues), number, "modulo {m} and {n}");
-    }
-    Ok(())
-}
-
-#[test]
-fn fractions_of_two_moduli(rt: HostRuntime) -> Result<(), Fail> {
-    for (m, x, n, y, a, b, fraction) in [
-        (101, 38, 1001, 876, 100, 100, Some((1, 8))),
-        (3, 2, 5, 3, 2, 3, Some((1, 2))),
-        (3, 0, 5, 4, 2, 3, None),
-        (PRIME, 27, NEXT_PRIME, 27, 1000, 1000, Some((27, 1))),
-        (
-            PRIME,
-            374_999_997,
-            NEXT_PRIME,
-            625_000_000,
-            1_000_000,
-            1_000_000,
-            Some((-45, 8)),
-        ),
-    ] {
-        let moduli = Moduli::of(vec![in rt.alloc(); Modulus::new(m)?, Modulus::new(n)?]?);
-        assert!(rt; x < m && y < n && coprime(m, n));
-        let product = m as u128 * (n as u128);
-        assert!(rt; product < 1 << 126);
-        assert!(rt; 1 <= a && a <= GREATEST && 1 <= b && b <= GREATEST);
-        assert!(rt; 2 * a as u128 * (b as u128) < product);
-        let wanted = fraction.map(|(top, bottom)| Fraction { top, bottom });
-        assert_eq!(rt; agreeing_fraction(&moduli, &[x, y], a, b), wanted);
-    }
-    Ok(())
-}
-
-#[test]
-fn three_moduli(rt: HostRuntime) -> Result<(), Fail> {
-    let moduli = Moduli::of(vec![in rt.alloc();
-        Modulus::new(3)?,
-        Modulus::new(5)?,
-        Modulus::new(7)?,
-    ]?);
-    assert!(rt; coprime(3, 5) && coprime(3, 7) && coprime(5, 7));
-    assert_eq!(rt; combine_slice(&moduli, &[2, 3, 2]), 23);
-    assert_eq!(rt; combine_slice(&moduli, &[1, 0, 0]), 70);
-    Ok(())
 }

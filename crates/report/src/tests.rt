@@ -22,16 +22,6 @@ struct Parts {
     class: Option<Power>,
 }
 
-// Lines in the projective line, by a term without classes.
-const LINES: Parts = Parts {
-    shape: (1, 1, 0),
-    weights: &[1, 3],
-    moduli: &[101],
-    bounds: (10, 4),
-    coefficients: &[0],
-    class: None,
-};
-
 // Double covers of a line, by the square of the first direct image of O(-1).
 const COVERS: Parts = Parts {
     shape: (1, 2, 0),
@@ -42,32 +32,6 @@ const COVERS: Parts = Parts {
     class: Some(Power {
         class: Class::R1 { k: 1 },
         power: 2,
-    }),
-};
-
-// Lines on a cubic surface.
-const CUBIC: Parts = Parts {
-    shape: (3, 1, 0),
-    weights: &[1, 10, 100, 1000],
-    moduli: &[1_000_000_007],
-    bounds: (1000, 1000),
-    coefficients: &[1],
-    class: Some(Power {
-        class: Class::Hypersurface { b: 3 },
-        power: 1,
-    }),
-};
-
-// Conics in the plane, by the first direct image of O(-3).
-const CONICS: Parts = Parts {
-    shape: (2, 2, 0),
-    weights: &[1, 10, 100],
-    moduli: &[1_000_000_007],
-    bounds: (10_000, 100),
-    coefficients: &[1],
-    class: Some(Power {
-        class: Class::R1 { k: 3 },
-        power: 1,
     }),
 };
 
@@ -132,45 +96,6 @@ fn report_of(alloc: Global, parts: &Parts, residues: &[u64]) -> Result<Report, F
 }
 
 #[test]
-fn sums_of_one_integral(rt: HostRuntime) -> Result<(), Fail> {
-    let alloc = rt.alloc();
-    // The bound on the numerator is below 27 in the third, and in the last the fraction is negative.
-    let few = Parts {
-        moduli: &[1009],
-        bounds: (10, 1),
-        ..CUBIC
-    };
-    let cases: [(&Parts, &[u64], u8, &str); 5] = [
-        (
-            &COVERS,
-            &[38, 876],
-            0,
-            "trees 8\nresidue 101 38\nresidue 1001 876\nfraction 1/8\n",
-        ),
-        (
-            &CUBIC,
-            &[27],
-            0,
-            "trees 12\nresidue 1000000007 27\nfraction 27/1\n",
-        ),
-        (&few, &[27], 1, "trees 12\nresidue 1009 27\nfraction none\n"),
-        (&LINES, &[0], 0, "trees 2\nresidue 101 0\nfraction 0/1\n"),
-        (
-            &CONICS,
-            &[374_999_997],
-            0,
-            "trees 42\nresidue 1000000007 374999997\nfraction -45/8\n",
-        ),
-    ];
-    for (parts, residues, status, text) in cases {
-        let report = report_of(alloc, parts, residues)?;
-        assert_eq!(rt; str::from_utf8(report.text.as_slice()), Ok(text));
-        assert_eq!(rt; report.status.code(), status, "{text}");
-    }
-    Ok(())
-}
-
-#[test]
 fn sums_of_two_integrals(rt: HostRuntime) -> Result<(), Fail> {
     let alloc = rt.alloc();
     // 1/8 is past the bound on the denominator, and -3 is not.
@@ -188,28 +113,6 @@ fn sums_of_two_integrals(rt: HostRuntime) -> Result<(), Fail> {
         integral 0\nresidue 101 38\nresidue 1001 876\nfraction none\n\
         integral 1\nresidue 101 98\nresidue 1001 998\nfraction -3/1\n"
         )
-    );
-    Ok(())
-}
-
-#[test]
-fn a_tree_without_an_inverse(rt: HostRuntime) -> Result<(), Fail> {
-    let alloc = rt.alloc();
-    // The second modulus divides the bottom, which has the factor 3!.
-    let parts = Parts {
-        moduli: &[101, 9],
-        bounds: (2, 2),
-        ..COVERS
-    };
-    let problem = problem_of(alloc, &parts)?;
-    if problem.shape.count() < 3 || problem.moduli.len() < 2 {
-        return Err("too few".into());
-    }
-    let report = no_inverse(alloc, &problem, 2, 1)?;
-    assert_eq!(rt; report.status, Status::NoInverse);
-    assert_eq!(rt;
-        str::from_utf8(report.text.as_slice()),
-        Ok("no inverse\ntree 2\nmodulus 9\nedges 0-1:1 0-2:1 colours 0 1 1 marks -\n")
     );
     Ok(())
 }

@@ -12,7 +12,6 @@ use residue::{Class, Integrals, Moduli, Modulus, NoUnit, Power, Powers, Setup, T
 use std::alloc::Global;
 use std::process::Abort;
 use std::test::Fail;
-use tree_parts::TreeParts;
 
 /// The conics in the plane with one mark that meet five points, modulo 1,000,000,007 and 101: once with the mark on a
 /// line, and once with three times its psi class added.
@@ -136,29 +135,6 @@ fn block_sums(
 }
 
 #[test]
-fn conics_that_meet_five_points(rt: HostRuntime) -> Result<(), Fail> {
-    let alloc = rt.alloc();
-    // A conic meets a line in 2 points; and 3 * -2 + 2, since the psi class has the degree -2 on a conic.
-    for weights in [[1, 10, 11], [-5, 7, 11]] {
-        let problem = conics(alloc, &weights)?;
-        let sums = sums_over(&rt, alloc, &problem, 0, 120)?.ok_or("no unit")?;
-        assert_eq!(rt; &sums[..4], [2, 2, 1_000_000_003, 97].as_slice());
-        assert_eq!(rt; sums[4], 0);
-    }
-    let problem = conics(alloc, &[1, 10, 11])?;
-    for (first, stop, known) in [
-        (0, 2, [498_766_014, 37, 2_467_979, 27]),
-        (0, 40, [642_341_294, 78, 60_290_848, 27]),
-        (3, 4, [215_998_785, 27, 376_000_445, 82]),
-        (40, 120, [357_658_715, 25, 939_709_155, 70]),
-    ] {
-        let sums = sums_over(&rt, alloc, &problem, first, stop)?.ok_or("no unit")?;
-        assert_eq!(rt; &sums[..4], known.as_slice(), "from {first} to {stop}");
-    }
-    Ok(())
-}
-
-#[test]
 fn covers_of_a_line(rt: HostRuntime) -> Result<(), Fail> {
     let alloc = rt.alloc();
     let problem = covers(alloc)?;
@@ -184,44 +160,4 @@ fn a_word_that_is_no_unit(rt: HostRuntime) -> Result<(), Fail> {
     assert!(rt; sums_over(&rt, alloc, &problem, 0, 2)?.is_some());
     assert!(rt; sums_over(&rt, alloc, &problem, 0, 3)?.is_none());
     Ok(())
-}
-
-#[test]
-fn the_contribution_of_one_tree(rt: HostRuntime) -> Result<(), Fail> {
-    let alloc = rt.alloc();
-    let problem = conics(alloc, &[1, 10, 11])?;
-    for (integral, modulus, residue) in [
-        (0, 0, 215_998_785),
-        (0, 1, 27),
-        (1, 0, 376_000_445),
-        (1, 1, 82),
-    ] {
-        let found = residue_of_tree(alloc, &problem, 3, integral, modulus)?;
-        assert_eq!(rt; found, Some(residue), "integral {integral} at {modulus}");
-    }
-    Ok(())
-}
-
-fn residue_of_tree(
-    alloc: Global,
-    problem: &Problem,
-    number: u64,
-    integral: u8,
-    modulus: u8,
-) -> Result<Option<u64>, Fail> {
-    let (table, mut seats) = problem_table(alloc, problem, 1)?;
-    let Some(mut seat) = seats.pop() else {
-        return Err("no seat".into());
-    };
-    let shape = &problem.shape;
-    if number >= shape.count() {
-        return Err("no such tree".into());
-    }
-    if integral as usize >= problem.integrals.len() || modulus as usize >= problem.moduli.len() {
-        return Err("no such sum".into());
-    }
-    let tree = shape.tree(number);
-    let parts = TreeParts::of(&tree, shape.r());
-    let sum = TableSum::of(problem, &table);
-    Ok(sum.tree_residue(&mut seat, &parts, integral, modulus).ok())
 }

@@ -27,28 +27,6 @@ fn parts_of(rt: &impl Abort, shape: &Shape, tree: &Tree) -> TreeParts {
 }
 
 #[test]
-fn edges_with_their_colours(rt: HostRuntime) -> Result<(), Fail> {
-    let shape = Shape::new(5, 6, 2).ok().ok_or("refused")?;
-    let star = parts_of(&rt, &shape, &star()?);
-    assert_eq!(rt; star.vertices(), 5);
-    let edges = star.edges();
-    assert_eq!(rt; edges.len(), 4);
-    for (place, first, second, degree) in [(0, 0, 5, 1), (1, 1, 5, 3), (2, 2, 5, 1), (3, 5, 4, 1)] {
-        assert!(rt; place < edges.len());
-        assert_eq!(rt;
-            edges[place],
-            ColouredEdge {
-                first,
-                second,
-                degree
-            },
-            "edge {place}"
-        );
-    }
-    Ok(())
-}
-
-#[test]
 fn ends_and_marks_at_each_vertex(rt: HostRuntime) -> Result<(), Fail> {
     let shape = Shape::new(5, 6, 2).ok().ok_or("refused")?;
     let star = parts_of(&rt, &shape, &star()?);

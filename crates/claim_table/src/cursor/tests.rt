@@ -3,7 +3,7 @@ ghost use Rattle.std.specs.Prelude.{◌≡◌, ℕ, ◌<◌, ◌≤◌, length, 
 ghost use Rattle.claim_table.specs.Seats.{board_plan, seat_record, IsSeatOf};
 
 use crate::Block;
-use crate::claimer::{Claimer, Closed};
+use crate::claimer::Closed;
 use crate::cursor::{Cursor, CursorSeat};
 use crate::owners::Owners;
 use std::alloc::Global;
@@ -107,37 +107,6 @@ fn round(
 }
 
 #[test]
-fn two_workers_take_three_blocks(rt: HostRuntime) -> Result<(), Fail> {
-    let played = round(rt.alloc(), 3, 2, &[], &[1, 0, 0, 1, 0])?;
-    let closed = &played.closed;
-    assert_eq!(rt;
-        played.answers.as_slice(),
-        [Some(0), Some(1), Some(2), None, None].as_slice()
-    );
-    assert_eq!(rt; closed.owners.blocks(), 3);
-    for (number, worker) in [(0, 1), (1, 0), (2, 0)] {
-        assert_eq!(rt; owner_of(&closed.owners, number), Some(worker));
-    }
-    assert_eq!(rt; closed.least_bad, NOTHING_BAD);
-    Ok(())
-}
-
-#[test]
-fn all_but_one_of_64_workers_take_nothing(rt: HostRuntime) -> Result<(), Fail> {
-    let mut order = [0; 65];
-    for (turn, worker) in order.iter_mut().enumerate() {
-        *worker = 63 - turn as u32 % 64;
-    }
-    let played = round(rt.alloc(), 1, 64, &[], &order)?;
-    let closed = &played.closed;
-    assert_eq!(rt; played.answers.first(), Some(&Some(0)));
-    assert!(rt; played.answers.iter().skip(1).all(|answer| answer.is_none()));
-    assert_eq!(rt; owner_of(&closed.owners, 0), Some(63));
-    assert_eq!(rt; closed.owners.share(63), 1);
-    Ok(())
-}
-
-#[test]
 fn workers_in_turn_take_1024_blocks(rt: HostRuntime) -> Result<(), Fail> {
     for (workers, first_share) in [(1, 1024), (2, 512), (7, 147), (64, 16)] {
         let mut order = Vec::new(rt.alloc());
@@ -164,20 +133,6 @@ fn the_least_report_is_seen_and_kept(rt: HostRuntime) -> Result<(), Fail> {
     let played = round(rt.alloc(), 1, 2, &reports, &[1, 0, 1])?;
     assert_eq!(rt; played.seens.as_slice(), [500, 400, 400].as_slice());
     assert_eq!(rt; played.closed.least_bad, 400);
-    Ok(())
-}
-
-#[test]
-fn owners_begin_with_worker_0_and_change_one_by_one(rt: HostRuntime) -> Result<(), Fail> {
-    let mut owners = Owners::new(rt.alloc(), 4)?;
-    owners.set(Block { number: 2 }, 5);
-    for (number, worker) in [(0, 0), (1, 0), (2, 5), (3, 0)] {
-        assert_eq!(rt; owner_of(&owners, number), Some(worker));
-    }
-    assert_eq!(rt;
-        (owners.share(0), owners.share(5), owners.share(1)),
-        (3, 1, 0)
-    );
     Ok(())
 }
 

@@ -2,7 +2,7 @@
 
 use crate::tests::ALL_KINDS;
 use crate::{Problem, generated, read, write};
-use residue::{Class, Modulus, Power, Setup, Term, Terms};
+use residue::{Modulus, Setup, Term, Terms};
 use std::test::Fail;
 
 fn are_same_weights(setup: &Setup, other: &Setup) -> bool {
@@ -57,54 +57,5 @@ fn what_is_written_reads_as_the_problem(rt: HostRuntime) -> Result<(), Fail> {
     assert!(rt; is_same(&problem, &again));
     let other = generated(alloc, 0).ok().ok_or("no memory")?;
     assert!(rt; !is_same(&problem, &other));
-    Ok(())
-}
-
-// What the problems of all numbers have in common: two moduli, the bounds, and one integral, of the class of quintics.
-fn is_of_the_quintic(problem: &Problem) -> bool {
-    let [first, second] = problem.moduli.as_slice() else {
-        return false;
-    };
-    let [terms] = problem.integrals.as_slice() else {
-        return false;
-    };
-    let [term] = terms.as_slice() else {
-        return false;
-    };
-    let quintic = Power {
-        class: Class::Hypersurface { b: 5 },
-        power: 1,
-    };
-    (first.get(), second.get()) == (1_000_000_007, 1_000_000_009)
-        && (problem.top_bound, problem.bottom_bound) == (20_000_000_000_000, 1_000)
-        && term.coefficient == 1
-        && term.classes.as_slice() == [quintic].as_slice()
-}
-
-#[test]
-fn makes_problems_of_degree_3_and_4(rt: HostRuntime) -> Result<(), Fail> {
-    let alloc = rt.alloc();
-    let table: [(u32, u8, &[i64], u64); 3] = [
-        (0, 3, &[1, 10, 100, 1_000, 10_000], 5_620),
-        (1, 4, &[1, 11, 121, 1_331, 14_641], 176_100),
-        (
-            4_294_967_219,
-            4,
-            &[1, 99, 9_801, 970_299, 96_059_601],
-            176_100,
-        ),
-    ];
-    for (number, degree, weights, count) in table {
-        let problem = generated(alloc, number).ok().ok_or("no memory")?;
-        let shape = problem.shape;
-        assert_eq!(rt; (shape.r(), shape.d(), shape.m()), (4, degree, 0));
-        assert_eq!(rt; shape.count(), count);
-        let setup = Setup::new(weights).ok().ok_or("no weights")?;
-        assert!(rt; are_same_weights(&problem.setup, &setup));
-        assert!(rt; is_of_the_quintic(&problem));
-        let text = write(alloc, &problem).ok().ok_or("no memory")?;
-        let again = read(alloc, text.as_slice()).ok().ok_or("refused")?;
-        assert!(rt; is_same(&problem, &again));
-    }
     Ok(())
 }

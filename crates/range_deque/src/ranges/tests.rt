@@ -3,7 +3,7 @@ ghost use Rattle.std.specs.Prelude.{◌≡◌, ℕ, ◌<◌, ◌≤◌, length, 
 ghost use Rattle.range_deque.specs.Seats.{board_plan, seat_record, IsSeatOf};
 
 use crate::ranges::{Cut, RangeSeat, Ranges};
-use claim_table::{Block, Claimer, Closed, NOTHING_BAD, Owners};
+use claim_table::{Block, Closed, NOTHING_BAD, Owners};
 use std::alloc::Global;
 use std::test::Fail;
 
@@ -157,71 +157,6 @@ fn a_worker_takes_the_back_half_of_anothers_range(rt: HostRuntime) -> Result<(),
     let closed = finish(board, seats).ok_or("a seat is not dry")?;
     for (number, worker) in [(0, 0), (1, 0), (2, 1), (3, 1), (4, 0)] {
         assert_eq!(rt; owner_of(&closed.owners, number), Some(worker));
-    }
-    Ok(())
-}
-
-#[test]
-fn the_last_of_three_workers_has_the_only_block(rt: HostRuntime) -> Result<(), Fail> {
-    let (board, mut seats) = RangeSeat::start(rt.alloc(), 1, 3)?;
-    let steps = [
-        (0, Step::Own),
-        (1, Step::Own),
-        (2, Step::Own),
-        (0, Step::Cut(2)),
-        (2, Step::Own),
-    ];
-    let answers = play(rt.alloc(), &mut seats, &board, &steps)?;
-    let wanted = [
-        Answer::Block(None),
-        Answer::Block(None),
-        Answer::Block(Some(0)),
-        Answer::Cut(Cut::Short {
-            word: (1 << 32) + 1,
-        }),
-        Answer::Block(None),
-    ];
-    assert_eq!(rt; answers.as_slice(), wanted.as_slice());
-    let closed = finish(board, seats).ok_or("a seat is not dry")?;
-    assert_eq!(rt; owner_of(&closed.owners, 0), Some(2));
-    Ok(())
-}
-
-// After its own two blocks, worker 0 cuts 4 and then 3 off worker 1's range, and leaves the last.
-#[test]
-fn a_take_steals_once_the_own_range_is_empty(rt: HostRuntime) -> Result<(), Fail> {
-    let (board, mut seats) = RangeSeat::start(rt.alloc(), 5, 2)?;
-    let order = [0, 0, 0, 0, 0, 1, 1];
-    let steps = order.map(|worker| (worker, Step::Take));
-    let answers = play(rt.alloc(), &mut seats, &board, &steps)?;
-    let blocks = [Some(0), Some(1), Some(4), Some(3), None, Some(2), None];
-    let wanted = blocks.map(Answer::Block);
-    assert_eq!(rt; answers.as_slice(), wanted.as_slice());
-    let closed = finish(board, seats).ok_or("a seat is not dry")?;
-    for (number, worker) in [(0, 0), (1, 0), (2, 1), (3, 0), (4, 0)] {
-        assert_eq!(rt; owner_of(&closed.owners, number), Some(worker));
-    }
-    assert_eq!(rt; closed.least_bad, NOTHING_BAD);
-    Ok(())
-}
-
-// A range of one block is never cut, so each of the others keeps one.
-#[test]
-fn one_of_64_workers_takes_all_but_63_blocks(rt: HostRuntime) -> Result<(), Fail> {
-    let (board, mut seats) = RangeSeat::start(rt.alloc(), 1024, 64)?;
-    let mut steps = Vec::new(rt.alloc());
-    for _ in 0..962u32 {
-        steps.push((0, Step::Take))?;
-    }
-    for worker in 1..64u32 {
-        steps.push((worker, Step::Take))?;
-        steps.push((worker, Step::Take))?;
-    }
-    play(rt.alloc(), &mut seats, &board, steps.as_slice())?;
-    let owners = finish(board, seats).ok_or("a seat is not dry")?.owners;
-    assert_eq!(rt; owners.share(0), 961);
-    for worker in 1..64u32 {
-        assert_eq!(rt; owners.share(worker), 1);
     }
     Ok(())
 }

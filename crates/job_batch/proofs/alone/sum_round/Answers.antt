@@ -59,7 +59,7 @@ pub returns-clause-summed : goal.returns-clause-summed
 returns-clause-summed c =
     let rules = (problem_of c.new-job.result.sum.now).rules in
     let cleared = c.clear.ensures.empty (view c.new-job.result) rules
-        (seat_in c.args.part.now.seat c.new-job.ensures.value c.requires.seat) in
+    (seat_in c.args.part.now.seat c.new-job.ensures.value c.requires.seat) in
     round_of_one (view c.new-job.result) (problem_view (problem_of c.args.sum.now)) (table_of c.args.sum.now)
     c.args.first c.args.end c.clear.new.self c.work_blocks.new.part c.args.residues.now c.add_residues.new.sums
     c.new-job.ensures.value rules c.requires.some c.in_default.ensures.least cleared.0 cleared.1 c.in_default.ensures.clean
