@@ -1,7 +1,7 @@
 //! The top call over objects in memory.
 
 use crate::locus;
-use crate::tests::cases::CONICS;
+use crate::tests::cases::{CONICS, DIGEST};
 use locus_io::{MemoryFiles, MemorySink, OpenGate, ScriptedStopper};
 use std::alloc::Global;
 use std::test::Fail;
@@ -11,10 +11,8 @@ use worker_pool::Gate;
 mod cases;
 mod faults;
 mod meeting;
-mod numbers;
 mod pauses;
-mod refusals;
-mod sums;
+mod shares;
 
 // What the conics of the projective line come to.
 const CONIC_SUM: &str = "trees 8\nresidue 101 38\nresidue 1001 876\nfraction 1/8\n";
@@ -149,20 +147,8 @@ fn run<R: Threads + Sync>(
     outcome(rt, alloc, words, &sound(text))?.told(alloc)
 }
 
-// The same for a problem of a version, whose text is given in two parts.
-fn sum<R: Threads + Sync>(
-    rt: &R,
-    alloc: Global,
-    version: u8,
-    top: &str,
-    rest: &str,
-) -> Result<String, Fail> {
-    let text = format!(in alloc; "version = {version}\n{top}{rest}")?;
-    run(rt, alloc, &["locus", "run", "f"], text.as_str())
-}
-
-// The text of a checkpoint of the conics of the projective line, behind three trees.
-fn checkpoint(alloc: Global, version: u8, first: u64, digest: &str) -> Result<String, Fail> {
-    let body = format!(in alloc; "locus-checkpoint {version}\nproblem 172\n{CONICS}\nnext 3\n")?;
-    Ok(format!(in alloc; "{body}residues {first} 646\nsha256 {digest}\n")?)
+// The text of the checkpoint of the conics of the projective line behind three trees.
+fn checkpoint(alloc: Global) -> Result<String, Fail> {
+    let body = format!(in alloc; "locus-checkpoint 2\nproblem 172\n{CONICS}\nnext 3\n")?;
+    Ok(format!(in alloc; "{body}residues 90 646\nsha256 {DIGEST}\n")?)
 }

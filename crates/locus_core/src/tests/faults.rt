@@ -1,13 +1,13 @@
 //! Files and outputs that fail.
 
-use crate::tests::cases::{CONICS, DIGEST};
+use crate::tests::cases::CONICS;
 use crate::tests::{CONIC_SUM, checkpoint, outcome, run, sound};
 use std::test::Fail;
 
 #[test]
 fn a_file_that_fails_is_a_read_fault(rt: HostRuntime) -> Result<(), Fail> {
     let alloc = rt.alloc();
-    let paused = checkpoint(alloc, 2, 90, DIGEST)?;
+    let paused = checkpoint(alloc)?;
     let cases: [(&[&str], &str); 4] = [
         (&["locus", "run", "f"], CONICS),
         (&["locus", "run", "f", "--budget", "3"], CONICS),
@@ -36,7 +36,7 @@ fn a_file_that_fails_is_a_read_fault(rt: HostRuntime) -> Result<(), Fail> {
 #[test]
 fn a_file_is_loaded_once(rt: HostRuntime) -> Result<(), Fail> {
     let alloc = rt.alloc();
-    let paused = checkpoint(alloc, 2, 90, DIGEST)?;
+    let paused = checkpoint(alloc)?;
     let cases: [(&[&str], &str, u8, u64); 7] = [
         (&["locus", "run", "f"], CONICS, 0, 1),
         (&["locus", "run", "f", "--budget", "3"], CONICS, 5, 1),

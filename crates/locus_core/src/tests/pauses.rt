@@ -1,9 +1,7 @@
 //! Pauses, at the end of a budget or after a stop, and how the sum goes on.
 
-use crate::tests::cases::{
-    CONICS, CUBIC_SUM, CUBICS, DIGEST, DIGEST_OF_VERSION_1, QUARTIC_SUM, QUARTICS,
-};
-use crate::tests::{CONIC_SUM, checkpoint, outcome, run, sound};
+use crate::tests::cases::{QUARTIC_SUM, QUARTICS};
+use crate::tests::{outcome, run, sound};
 use std::test::Fail;
 
 // The quartics have three rounds, of 65,536, 65,536 and 45,028 trees.

@@ -1,9 +1,7 @@
-//! What the sums of problems come to.
+//! What the workers of a sum have for shares.
 
-use crate::tests::cases::{
-    CUBIC_SUM, CURVE_SUMS, INTEGRAL_SUMS, LINE_SUMS, MARKED, NO_INVERSES, PSI_SUMS, SHARES,
-};
-use crate::tests::{outcome, run, sound, sum};
+use crate::tests::cases::SHARES;
+use crate::tests::{outcome, sound};
 use std::test::Fail;
 
 #[test]
