@@ -37,12 +37,15 @@ fn a_file_that_fails_is_a_read_fault(rt: HostRuntime) -> Result<(), Fail> {
 fn a_file_is_loaded_once(rt: HostRuntime) -> Result<(), Fail> {
     let alloc = rt.alloc();
     let paused = checkpoint(alloc)?;
-    let cases: [(&[&str], &str, u8, u64); 7] = [
+    let cases: [(&[&str], &str, u8, u64); 10] = [
         (&["locus", "run", "f"], CONICS, 0, 1),
         (&["locus", "run", "f", "--budget", "3"], CONICS, 5, 1),
         (&["locus", "resume", "f"], paused.as_str(), 0, 1),
         (&["locus", "run", "f"], "", 3, 1),
         (&["locus", "resume", "f"], "", 8, 1),
+        (&["locus", "unrank", "f", "4"], CONICS, 0, 1),
+        (&["locus", "unrank", "f", "8"], CONICS, 10, 1),
+        (&["locus", "rank", "f", "edges"], CONICS, 11, 1),
         (&["locus", "make", "0"], "", 0, 0),
         (&["locus", "walk", "f"], CONICS, 2, 0),
     ];
