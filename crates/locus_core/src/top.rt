@@ -126,9 +126,9 @@ pub fn locus<R: Threads + Sync, F: Files, O: Sink, E: Sink, S: Stopper, G: Gate>
         (sink_change E.written E.is_flushed E.faults err.old err.new)
         (stopper_change S.stops S.last_stop stopper.old stopper.new) result.shares) result.status }
 
-    // At status 0 and 1, but for `make`, `rank` and `unrank`, what is printed is the residues that the sum began with plus those of all numbers
-    // from its first on, and the only fractions that agree with them. If it began anew or with true residues, they are
-    // Kontsevich's.
+    // At status 0 and 1, but for `make`, `rank` and `unrank`, what is printed is the residues that the sum began with plus
+    // those of all numbers from its first on, and the only fractions that agree with them. If it began anew or with true
+    // residues, they are Kontsevich's.
     ensures residues { PrintsItsSums (run_of (map string_bytes words.now)
         (files_change F.content F.faults F.last_fault files.old files.new)
         (sink_change O.written O.is_flushed O.faults out.old out.new)
