@@ -3,7 +3,7 @@ ghost use Rattle.std.specs.Prelude.{◌≡◌, ℕ, ◌<◌, ◌≤◌, length, 
 ghost use Rattle.claim_table.specs.Seats.{board_plan, seat_record, IsSeatOf};
 
 use crate::Block;
-use crate::claimer::Closed;
+use crate::claimer::{Claimer, Closed};
 use crate::cursor::{Cursor, CursorSeat};
 use crate::owners::Owners;
 use std::alloc::Global;

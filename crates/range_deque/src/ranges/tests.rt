@@ -3,7 +3,7 @@ ghost use Rattle.std.specs.Prelude.{◌≡◌, ℕ, ◌<◌, ◌≤◌, length, 
 ghost use Rattle.range_deque.specs.Seats.{board_plan, seat_record, IsSeatOf};
 
 use crate::ranges::{Cut, RangeSeat, Ranges};
-use claim_table::{Block, Closed, NOTHING_BAD, Owners};
+use claim_table::{Block, Claimer, Closed, NOTHING_BAD, Owners};
 use std::alloc::Global;
 use std::test::Fail;
 
