@@ -42,7 +42,7 @@ ALL = {
     "batch": ([TEXT], 1, WORKERS),
     "cross": (FILES_8, 2, WORKERS),
 }
-BUILT = {name: ALL[name] for name in ("run", "resume", "make", "soak", "rank", "unrank")}
+BUILT = {name: ALL[name] for name in ("run", "resume", "make", "soak", "trees", "rank", "unrank")}
 
 
 def value_of(kind, text):

@@ -1,5 +1,5 @@
 -- What the commands that are built today ask.
-use Rattle.std.proofs.Common.{◌≡◌, zero, suc, List, [], ◌∷◌, Option, Some, None, option_map, subst, arith}
+use Rattle.std.proofs.Common.{◌≡◌, ℕ, zero, suc, List, [], ◌∷◌, Option, Some, None, option_map, option_and_then, subst, arith}
 use Rattle.std.proofs.lemmas.Option.{same_Some}
 use Rattle.std.specs.List.{Contains}
 use Rattle.clap.specs.Walk.{Text}
@@ -7,7 +7,7 @@ use Rattle.command_words.specs.Words.{number_in, plains_in}
 use Rattle.command_line.specs.declared.table.Commands.TheVariants as commands
 use Rattle.command_line.specs.Asked.{Asks, values_of}
 use Rattle.command_line.specs.Limits.{IsBuilt}
-use Rattle.command_line.specs.Requests.{Options, Request, run, resume, make, soak, rank, unrank, sum_asked, workers_in}
+use Rattle.command_line.specs.Requests.{Options, Request, run, resume, make, soak, trees, rank, unrank, sum_asked, workers_in}
 use Rattle.command_line.specs.Table.{CommandRule, rules_of}
 use Rattle.command_line.specs.Table as table
 
@@ -35,6 +35,18 @@ soak_built [] os r e = cc
 soak_built (n ∷ []) os r e = from_map (λ number. soak number (workers_in os)) (number_in n) r (λ s. tt) e
 soak_built (n ∷ m ∷ ws) os r e = cc
 
+trees_built : AsksBuilt table.trees
+trees_built [] os r e = cc
+trees_built (file ∷ []) os r e = cc
+trees_built (file ∷ lo ∷ []) os r e = cc
+trees_built (file ∷ lo ∷ hi ∷ []) os r e = by_low (number_in lo) e
+  where
+    by_low : (o : Option ℕ)
+        → option_and_then (λ low. option_map (λ high. trees file low high (workers_in os)) (number_in hi)) o ≡ Some r → IsBuilt r
+    by_low None e = cc
+    by_low (Some low) e = from_map (λ high. trees file low high (workers_in os)) (number_in hi) r (λ high. tt) e
+trees_built (file ∷ lo ∷ hi ∷ w ∷ ws) os r e = cc
+
 rank_built : AsksBuilt table.rank
 rank_built [] os r e = cc
 rank_built (file ∷ []) os r e = cc
@@ -58,5 +70,5 @@ pick (x ∷ rs) r each (suc k, lt, is) = pick rs r each.1 (k, omega arith, is)
 
 pub built_request : (words : List Text) (request : Request) → Asks commands.Built words request → IsBuilt request
 built_request words request a =
-    pick (rules_of commands.Built) a.rule (run_built, (resume_built, (make_built, (soak_built, (rank_built, (unrank_built, tt)))))) a.known
+    pick (rules_of commands.Built) a.rule (run_built, (resume_built, (make_built, (soak_built, (trees_built, (rank_built, (unrank_built, tt))))))) a.known
     (plains_in a.items) (values_of a.items) request a.asked

@@ -143,7 +143,10 @@ each commands.Built = (
     (resume_some, λ ws os. refl),
     (
       (make_some, λ ws os. refl),
-      ((soak_some, λ ws os. refl), ((rank_some, λ ws os. refl), ((unrank_some, λ ws os. refl), tt))),
+      (
+        (soak_some, λ ws os. refl),
+        ((trees_some, λ ws os. refl), ((rank_some, λ ws os. refl), ((unrank_some, λ ws os. refl), tt))),
+      ),
     ),
   ),
 )

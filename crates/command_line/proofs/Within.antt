@@ -212,7 +212,10 @@ pick (x ∷ rs) r each (zero, lt, is) = subst AsksWithin is each.0
 pick (x ∷ rs) r each (suc k, lt, is) = pick rs r each.1 (k, omega arith, is)
 
 each : (c : Commands) → Each (rules_of c)
-each commands.Built = (run_within, (resume_within, (make_within, (soak_within, (rank_within, (unrank_within, tt))))))
+each commands.Built = (
+  run_within,
+  (resume_within, (make_within, (soak_within, (trees_within, (rank_within, (unrank_within, tt)))))),
+)
 each commands.All = (
   run_within,
   (

@@ -103,7 +103,7 @@ abbrev pub all_commands : List CommandRule
 all_commands = run ∷ resume ∷ make ∷ soak ∷ trees ∷ rank ∷ unrank ∷ split ∷ merge ∷ batch ∷ cross ∷ []
 
 abbrev pub rules_of : Commands → List CommandRule
-rules_of commands.Built = run ∷ resume ∷ make ∷ soak ∷ rank ∷ unrank ∷ []
+rules_of commands.Built = run ∷ resume ∷ make ∷ soak ∷ trees ∷ rank ∷ unrank ∷ []
 rules_of commands.All = all_commands
 
 abbrev pub table_of_commands : Commands → List Usage

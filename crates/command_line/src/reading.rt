@@ -29,7 +29,7 @@ pub fn read<'a>(
     ensures reading { IsReading commands (map string_bytes words.now) result }
     // What is asked is within its limits.
     ensures within { IfOk result (λ command. IsWithin (request_of command)) }
-    // Of the commands that are built, what is asked is one of the six.
+    // Of the commands that are built, what is asked is one of the seven.
     ensures built { commands ≡ Commands.Built → IfOk result (λ command. IsBuilt (request_of command)) }
 {
     let given = command_words::read(alloc, commands.program(), words)?;

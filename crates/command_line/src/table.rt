@@ -9,13 +9,13 @@ use command_words::{CommandRow, Program};
 /// Which commands are accepted.
 #[derive(Clone, Copy, Debug, PartialEq, Eq)]
 pub enum Commands {
-    /// Those that the program has today: `run`, `resume`, `make`, `soak`, `rank` and `unrank`.
+    /// Those that the program has today: `run`, `resume`, `make`, `soak`, `trees`, `rank` and `unrank`.
     Built,
     /// All that are planned, with all their options.
     All,
 }
 
-const BUILT_ROWS: [CommandRow<'static>; 6] = [RUN, RESUME, MAKE, SOAK, RANK, UNRANK];
+const BUILT_ROWS: [CommandRow<'static>; 7] = [RUN, RESUME, MAKE, SOAK, TREES, RANK, UNRANK];
 
 const ALL_ROWS: [CommandRow<'static>; 11] = [
     RUN, RESUME, MAKE, SOAK, TREES, RANK, UNRANK, SPLIT, MERGE, BATCH, CROSS,
@@ -28,6 +28,7 @@ const BUILT_USAGE: &str = concat!(
     "  resume FILE [--workers N] [--budget N] [--stop-file NAME]  go on with a sum that was paused\n",
     "  make N                                                     print the generated problem of a number\n",
     "  soak N [--workers N]                                       sum the generated problem of a number\n",
+    "  trees FILE LO HI [--workers N]                             print the trees of a range with their residues\n",
     "  rank FILE TEXT                                             print the number of a tree\n",
     "  unrank FILE K                                              print the tree of a number",
 );

@@ -1,21 +1,20 @@
 -- What the last run of a chain comes to. Each run of a chain begins with true residues: the first with none, and a later one
 -- with those of the checkpoint that the run before printed.
-use Rattle.std.proofs.Common.{◌≡◌, ◌≢◌, ◌⊎◌, ℕ, inl, inr, List, [], ◌++◌, Some, Ok, refl, sym, ap, ◌∙◌, subst}
+use Rattle.std.proofs.Common.{◌≡◌, ◌≢◌, ℕ, inl, inr, List, [], ◌++◌, Some, Ok, refl, sym, ap, ◌∙◌, subst}
 use Rattle.std.proofs.lemmas.Option.{same_Some}
 use Rattle.problem.specs.Rules.{ProblemView}
 use Rattle.problem_toml.specs.Reading.{reading}
-use Rattle.checkpoint.specs.States.{StateView}
-use Rattle.checkpoint.specs.Texts.{text_in, IsTextOf}
+use Rattle.checkpoint.specs.Texts.{text_in}
 use Rattle.report.specs.Texts.{done_text, no_inverse_text}
 use Rattle.rounds.specs.Outcomes.{sum_of, IsTrueSum}
-use Rattle.command_line.specs.Requests.{Request, Sum, run, resume, make, rank, unrank}
+use Rattle.command_line.specs.Requests.{Request, Sum, run, resume, make, trees, rank, unrank}
 use Rattle.locus_core.specs.Words.{AsksFor}
 use Rattle.locus_core.specs.Outside.{TakesText}
 use Rattle.locus_core.specs.Begins.{Beginning, Begins, IsTrueBeginning}
-use Rattle.locus_core.specs.Comes.{state_at, problem_file_of}
+use Rattle.locus_core.specs.Comes.{IsOutOfRange, state_at, problem_file_of}
 use Rattle.locus_core.specs.Ends.{Run, Ends}
 use Rattle.locus_core.specs.Headline.{IsDoneStatus, SumsNothing}
-use Rattle.locus_core.specs.Chains.{ReadsFile, HasPrinted, IsChainOfRuns, begins, resumes, PrintsKontsevichSums, NamesLeastOfAll, PausesTruly, IsAtEnd, EndsChain, EndsItsChains}
+use Rattle.locus_core.specs.Chains.{IsChainOfRuns, begins, resumes, PrintsKontsevichSums, NamesLeastOfAll, PausesTruly, IsAtEnd, EndsItsChains}
 use Rattle.locus_core.proofs.Inversions.{same_request, same_bytes, same_file, differ, file_of_problem, run_not_resume, begun_by_run, begun_by_resume, not_both_read, not_both_states, same_state}
 use Rattle.locus_core.proofs.Headline.{sums, refusal, pause, bytes}
 use Rattle.locus_core.proofs.SameEnds.{same_text, Concludes, same_end}
@@ -71,10 +70,13 @@ asks_no_tree source r chain name k asks =
     asks_no_other source r chain (unrank name k) asks (λ s e. differ (unrank name k) (run s) e (λ x. cc)) (λ s e. differ (unrank name k) (resume s) e (λ x. cc))
 
 sums_something : (source : List ℕ) (r : Run) → IsChainOfRuns source r → SumsNothing r → ⊥
-sums_something source r chain (inl (k, asks)) =
+sums_something source r chain (inl (name, low, high, workers, asks)) =
+    asks_no_other source r chain (trees name low high workers) asks (λ s e. differ (trees name low high workers) (run s) e (λ x. cc))
+    (λ s e. differ (trees name low high workers) (resume s) e (λ x. cc))
+sums_something source r chain (inr (inl (k, asks))) =
     asks_no_other source r chain (make k) asks (λ s e. differ (make k) (run s) e (λ x. cc)) (λ s e. differ (make k) (resume s) e (λ x. cc))
-sums_something source r chain (inr (inl (name, text, asks))) = asks_no_number source r chain name text asks
-sums_something source r chain (inr (inr (name, k, asks))) = asks_no_tree source r chain name k asks
+sums_something source r chain (inr (inr (inl (name, text, asks)))) = asks_no_number source r chain name text asks
+sums_something source r chain (inr (inr (inr (name, k, asks)))) = asks_no_tree source r chain name k asks
 
 asks_something : (source : List ℕ) (r : Run) → IsChainOfRuns source r → ((request : Request) → ¬ AsksFor r.words request) → ⊥
 asks_something source _ (begins r f) nothing = nothing (run f.sum) f.words
@@ -175,7 +177,9 @@ ends_chains r n e source p chain reads = record {
     λ two. asks_something source r chain ((bytes r n e).words_refused two).words,
     problem_accepted source p r n e chain reads,
     checkpoint_accepted source r n e chain,
-    λ ten. let w = (bytes r n e).range_refused ten in asks_no_tree source r chain w.name w.number w.words,
+    λ ten. let w = (bytes r n e).range_refused ten in
+        asks_no_other source r chain w.request w.words (λ s e. subst (IsOutOfRange w.problem) e w.out_of_range)
+        (λ s e. subst (IsOutOfRange w.problem) e w.out_of_range),
     λ eleven. let w = (bytes r n e).tree_refused eleven in asks_no_number source r chain w.name w.text w.words,
   );
 }

@@ -1,7 +1,7 @@
 -- What follows from how a run ends: which statuses there are, and when each comes. The words ask for one thing, and the
 -- files hold one file of a name, so what an end says of its request and its bytes is said of those of a clause.
 use Rattle.std.specs.List.{list_all}
-use Rattle.std.proofs.Common.{◌≡◌, ◌≢◌, ◌↔◌, ◌⊎◌, ℕ, inl, inr, ◌==◌, Bool, true, false, is_some, List, [], Option, Some, None, Result, Ok, IsErr, IsSome, IfSome, refl, sym, ap, ◌∙◌, subst, arith, if◌then◌else◌}
+use Rattle.std.proofs.Common.{◌≡◌, ◌≢◌, ◌↔◌, ◌⊎◌, ℕ, inl, inr, ◌==◌, Bool, true, false, is_some, List, Option, Some, None, Result, Ok, IsErr, IsSome, IfSome, refl, sym, ap, ◌∙◌, subst, arith, if◌then◌else◌}
 use Rattle.std.proofs.lemmas.Bool.{false≢true}
 use Rattle.std.proofs.lemmas.Option.{same_Some}
 use Rattle.recover_fraction.specs.declared.recovery.Fraction.{Fraction}
@@ -12,12 +12,12 @@ use Rattle.problem_toml.specs.declared.error.ProblemError.{ProblemError}
 use Rattle.problem_toml.specs.Generator.{generated_problem}
 use Rattle.report.specs.Report.{done_status}
 use Rattle.rounds.specs.declared.progress.Outcome.{Outcome}
-use Rattle.command_line.specs.Requests.{Request, Sum, run, resume, make, rank, unrank}
+use Rattle.command_line.specs.Requests.{Request, Sum, resume, make, trees, rank, unrank}
 use Rattle.checkpoint.specs.Texts.{IsTextOf}
 use Rattle.locus_core.specs.Words.{AsksFor, AskNothing}
 use Rattle.locus_core.specs.Outside.{Change, FilesState, StopperState, Holds, TakesText}
 use Rattle.locus_core.specs.Begins.{Beginning, Begins}
-use Rattle.locus_core.specs.Comes.{Comes, summed, made, ranked, unranked, RunsRounds, IsAnswer, done, paused, no_inverse, file_of_request, problem_file_of}
+use Rattle.locus_core.specs.Comes.{Comes, summed, made, ranked, unranked, listed, RunsRounds, IsAnswer, done, paused, no_inverse, IsOutOfRange, file_of_request, problem_file_of}
 use Rattle.locus_core.specs.Ends.{Run, Ends, printed, words_refused, problem_refused, read_fault, write_fault, checkpoint_refused, want_of_memory, range_refused, tree_refused}
 use Rattle.locus_core.specs.Headline.{IsDoneStatus, IsPrintedStatus, IsStatus, AsksOf, IsNoCheckpoint, Accepts, NeedsItsFile, Makes, MakesProblem}
 use Rattle.locus_core.proofs.Inversions.{same_request, same_bytes, same_file, differ, file_of_problem, AsksText, text_begins_nothing, resume_is_sum, ReadsProblem, begun_of_problem, begun_of_file, begun_by_resume, not_both_states}
@@ -43,20 +43,19 @@ pub record CameBySum (files : Change FilesState) (stopper : Change StopperState)
   pub sums : RunsRounds beginning stopper shares outcome
   pub answer : IsAnswer beginning outcome n text
 
-pub record CameByText (shares : List ℕ) (request : Request) (n : ℕ) : Type 0 where
+pub record CameByText (request : Request) (n : ℕ) : Type 0 where
   pub asked : AsksText request
   pub zero : n ≡ 0
-  pub alone : shares ≡ []
 
 pub came : {files : Change FilesState} {stopper : Change StopperState} {shares : List ℕ} {request : Request} {n : ℕ} {text : List ℕ}
-    → Comes files stopper shares request n text → CameBySum files stopper shares request n text ⊎ CameByText shares request n
+    → Comes files stopper shares request n text → CameBySum files stopper shares request n text ⊎ CameByText request n
 came (summed request b outcome n text begins sums answer) =
     inl (record { beginning = b; outcome = outcome; begins = begins; sums = sums; answer = answer })
-came (made number text reads none still) = inr (record { asked = inl (number, refl); zero = refl; alone = none })
-came (ranked name text p g file decorated has none still) =
-    inr (record { asked = inr (inl (name, text, refl)); zero = refl; alone = none })
-came (unranked name p number file below none still) =
-    inr (record { asked = inr (inr (name, number, refl)); zero = refl; alone = none })
+came (made number text reads none still) = inr (record { asked = inr (inl (number, refl)); zero = refl })
+came (ranked name text p g file decorated has none still) = inr (record { asked = inr (inr (inl (name, text, refl))); zero = refl })
+came (unranked name p number file below none still) = inr (record { asked = inr (inr (inr (name, number, refl))); zero = refl })
+came (listed name low high workers p file range shares still) =
+    inr (record { asked = inl (name, low, high, workers, refl); zero = refl })
 
 pub came_printed : {files : Change FilesState} {stopper : Change StopperState} {shares : List ℕ} {request : Request} {n : ℕ} {text : List ℕ}
     → Comes files stopper shares request n text → IsPrintedStatus n
@@ -64,6 +63,7 @@ came_printed (summed request b outcome n text begins sums answer) = answer_is b 
 came_printed (made number text reads none still) = inl (inl refl)
 came_printed (ranked name text p g file decorated has none still) = inl (inl refl)
 came_printed (unranked name p number file below none still) = inl (inl refl)
+came_printed (listed name low high workers p file range shares still) = inl (inl refl)
 
 -- 1 for the statuses at which a whole text is printed
 abbrev printed_code : ℕ → ℕ
@@ -112,7 +112,7 @@ words r n e = (λ is. asks_nothing e is, λ none. is_two e none)
     is_two (write_fault is e) none = absurd (none e.request e.words)
     is_two (checkpoint_refused is e) none = absurd (none (resume e.sum) e.words)
     is_two (want_of_memory is e) none = absurd (none e.request e.words)
-    is_two (range_refused is e) none = absurd (none (unrank e.name e.number) e.words)
+    is_two (range_refused is e) none = absurd (none e.request e.words)
     is_two (tree_refused is e) none = absurd (none (rank e.name e.text) e.words)
 
 -- ---- what the bytes of a file decide
@@ -129,6 +129,8 @@ came_of_problem name (made number text reads none still) e = absurd (let f : ⊥
 came_of_problem {files} name (ranked file text p g h decorated has none still) e =
     subst (ReadsProblem files) (same_Some file name e) (record { bytes = h.bytes; problem = p; file = h.file; reads = h.reads })
 came_of_problem {files} name (unranked file p number h below none still) e =
+    subst (ReadsProblem files) (same_Some file name e) (record { bytes = h.bytes; problem = p; file = h.file; reads = h.reads })
+came_of_problem {files} name (listed file low high workers p h range shares still) e =
     subst (ReadsProblem files) (same_Some file name e) (record { bytes = h.bytes; problem = p; file = h.file; reads = h.reads })
 
 pub is_no_error : (r : Result ProblemView ProblemError) (p : ProblemView) → r ≡ Ok p → IsErr r → ⊥
@@ -180,8 +182,8 @@ accepts_problem r n e told is request bytes six nine some asks = by_end e
         let none : problem_file_of (resume w.sum) ≡ Some asks.name = ap problem_file_of (same_request r (resume w.sum) request w.words asks.words) ∙ named in
         absurd (let f : ⊥ = cc in f)
     by_end (range_refused ten w) =
-        read_by (unrank w.name w.number) (same_request r (unrank w.name w.number) request w.words asks.words)
-        (λ e. subst (ReadsProblem r.files) (same_Some w.name asks.name e)
+        read_by w.request (same_request r w.request request w.words asks.words)
+        (λ e. subst (ReadsProblem r.files) (same_Some w.name asks.name (sym w.asked ∙ e))
         (record { bytes = w.file.bytes; problem = w.problem; file = w.file.file; reads = w.file.reads }))
         (λ three. omega (arith, three, ten))
     by_end (tree_refused eleven w) =
@@ -201,7 +203,7 @@ resume_reads : (r : Run) (told : NamedFiles) (s : Sum) (bytes : List ℕ) {reque
     → AsksOf r told (resume s) bytes → request ≡ resume s → Comes r.files r.stopper r.shares request n text → IsNoCheckpoint bytes → ⊥
 resume_reads r told s bytes {request} {n} {text} is asks same comes none = by (came comes)
   where
-    by : CameBySum r.files r.stopper r.shares request n text ⊎ CameByText r.shares request n → ⊥
+    by : CameBySum r.files r.stopper r.shares request n text ⊎ CameByText request n → ⊥
     by (inl c) =
         let h = begun_by_resume r.files request s c.beginning c.begins same in
         let name = same_file (resume s) (resume s) asks.name s.file refl asks.asked refl in
@@ -224,7 +226,7 @@ accepts_resume r n (problem_refused three w) told is s bytes six nine asks =
     let named : problem_file_of (resume s) ≡ Some w.name = ap problem_file_of (same_request r (resume s) w.request asks.words w.words) ∙ w.asked in
     absurd (let f : ⊥ = cc in f)
 accepts_resume r n (range_refused ten w) told is s bytes six nine asks =
-    absurd (differ (unrank w.name w.number) (resume s) (same_request r (unrank w.name w.number) (resume s) w.words asks.words) (λ x. cc))
+    absurd (subst (IsOutOfRange w.problem) (same_request r w.request (resume s) w.words asks.words) w.out_of_range)
 accepts_resume r n (tree_refused eleven w) told is s bytes six nine asks =
     absurd (differ (rank w.name w.text) (resume s) (same_request r (rank w.name w.text) (resume s) w.words asks.words) (λ x. cc))
 accepts_resume r n (checkpoint_refused eight w) told is s bytes six nine asks =
@@ -245,6 +247,8 @@ came_of_file name (made number text reads none still) e = absurd (let f : ⊥ = 
 came_of_file {files} name (ranked file text p g h decorated has none still) e =
     (h.bytes, subst (λ x. Holds files x h.bytes) (same_Some file name e) h.file)
 came_of_file {files} name (unranked file p number h below none still) e =
+    (h.bytes, subst (λ x. Holds files x h.bytes) (same_Some file name e) h.file)
+came_of_file {files} name (listed file low high workers p h range shares still) e =
     (h.bytes, subst (λ x. Holds files x h.bytes) (same_Some file name e) h.file)
 
 pub absent : (r : Run) (n : ℕ) → Ends r n → NeedsItsFile r n
@@ -277,7 +281,8 @@ absent r n e = if_told r.files.before.content _ (λ told is request name asks na
         (same_file request w.request name w.name (same_request r request w.request asks w.words) named (file_of_problem w.request w.name w.asked)) w.file
     by_end told is request name asks named none (range_refused ten w) =
         not_there told name w.name w.file.bytes is none
-        (same_file request (unrank w.name w.number) name w.name (same_request r request (unrank w.name w.number) asks w.words) named refl) w.file.file
+        (same_file request w.request name w.name (same_request r request w.request asks w.words) named (file_of_problem w.request w.name w.asked))
+        w.file.file
     by_end told is request name asks named none (tree_refused eleven w) =
         not_there told name w.name w.file.bytes is none
         (same_file request (rank w.name w.text) name w.name (same_request r request (rank w.name w.text) asks w.words) named refl) w.file.file
@@ -301,9 +306,11 @@ makes r n (printed p) number asks = inl (by (same_request r p.request (make numb
     by same (made k text reads none still) out =
         (refl, record { text = text; reads = reads ∙ ap (λ k. Ok (generated_problem k)) (same_number k number same); out = out })
     by same (summed request b outcome m text begins sums answer) out =
-        absurd (text_begins_nothing r.files request b begins (inl (number, same)))
+        absurd (text_begins_nothing r.files request b begins (inr (inl (number, same))))
     by same (ranked name text p g file decorated has none still) out = absurd (differ (rank name text) (make number) same (λ x. cc))
     by same (unranked name p k file below none still) out = absurd (differ (unrank name k) (make number) same (λ x. cc))
+    by same (listed name low high workers p file range shares still) out =
+        absurd (differ (trees name low high workers) (make number) same (λ x. cc))
 makes r n (write_fault is w) number asks = inr (inl (is, w.out.fault))
 makes r n (words_refused is w) number asks = absurd (w.words (make number) asks)
 makes r n (problem_refused is w) number asks =
@@ -312,7 +319,7 @@ makes r n (problem_refused is w) number asks =
 makes r n (checkpoint_refused is w) number asks =
     absurd (differ (resume w.sum) (make number) (same_request r (resume w.sum) (make number) w.words asks) (λ x. cc))
 makes r n (range_refused is w) number asks =
-    absurd (differ (unrank w.name w.number) (make number) (same_request r (unrank w.name w.number) (make number) w.words asks) (λ x. cc))
+    absurd (subst (IsOutOfRange w.problem) (same_request r w.request (make number) w.words asks) w.out_of_range)
 makes r n (tree_refused is w) number asks =
     absurd (differ (rank w.name w.text) (make number) (same_request r (rank w.name w.text) (make number) w.words asks) (λ x. cc))
 makes r n (read_fault is w) number asks =

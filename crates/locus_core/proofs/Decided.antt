@@ -1,5 +1,5 @@
 -- The status that a sum has to have, and which decorated trees a refusal says to be bad.
-use Rattle.std.proofs.Common.{◌≡◌, ◌≢◌, ◌↔◌, ◌⊎◌, ℕ, inl, inr, ◌+◌, ◌<◌, true, List, Option, Some, None, Ok, IfSome, IsSome, refl, sym, ap, ◌∙◌, subst, arith, ⊎_elim}
+use Rattle.std.proofs.Common.{◌≡◌, ◌≢◌, ◌↔◌, ◌⊎◌, ℕ, inl, inr, ◌+◌, ◌<◌, true, List, Option, Some, None, IfSome, IsSome, refl, sym, ap, ◌∙◌, subst, arith, ⊎_elim}
 use Rattle.std.proofs.lemmas.Bool.{false≢true, cases_lt}
 use Rattle.trees.specs.TreeNumbers.{tree_of}
 use Rattle.trees.proofs.TreeNumbers.{tree_of_in_all_trees}
@@ -15,14 +15,14 @@ use Rattle.checkpoint.specs.Texts.{IsTextOf}
 use Rattle.rounds.specs.Rounds.{budget_end, reached}
 use Rattle.rounds.specs.Outcomes.{SumView, IsDone, IsPaused, IsNoInverse, IsTrueSum}
 use Rattle.rounds.specs.declared.progress.Outcome.{Outcome}
-use Rattle.command_line.specs.Requests.{Request, resume, rank, unrank}
+use Rattle.command_line.specs.Requests.{Request, resume, rank}
 use Rattle.locus_core.specs.Outside.{Change, StopperState, HasStopped}
 use Rattle.locus_core.specs.Begins.{Beginning, Begins, IsTrueBeginning}
 use Rattle.locus_core.specs.Comes.{RunsRounds, IsAnswer, done, paused, no_inverse, file_of_request, problem_file_of}
 use Rattle.locus_core.specs.Ends.{Run, Ends, printed, words_refused, problem_refused, read_fault, write_fault, checkpoint_refused, want_of_memory, range_refused, tree_refused}
 use Rattle.locus_core.specs.Headline.{IsDoneStatus, NamesBadTrees, end_of, IsStatusOf, IsDecided}
 use Rattle.locus_core.proofs.TrueSums.{none_bad_before, true_at}
-use Rattle.locus_core.proofs.Inversions.{same_request, same_bytes, told_bytes, file_of_problem, AsksText, text_begins_nothing, begun_of_problem, begun_by_resume, not_both_read, not_both_states, same_beginning}
+use Rattle.locus_core.proofs.Inversions.{same_request, same_bytes, told_bytes, file_of_problem, AsksText, text_begins_nothing, out_of_range_asks, begun_of_problem, begun_by_resume, not_both_read, not_both_states, same_beginning}
 use Rattle.locus_core.proofs.Consequences.{done_is, came, CameBySum, CameByText}
 
 pub small_degree : (p : ProblemView) → KeepsRules p → p.shape.degree < 11
@@ -75,7 +75,7 @@ no_sum_status n m (inr e) is a b c = c (sym is ∙ e)
 pub bad : (r : Run) (n : ℕ) → Ends r n → NamesBadTrees r n
 bad r n e status request b asks knows begins truth = by_end e
   where
-    by_came : {asked : Request} {text : List ℕ} → asked ≡ request → CameBySum r.files r.stopper r.shares asked n text ⊎ CameByText r.shares asked n
+    by_came : {asked : Request} {text : List ℕ} → asked ≡ request → CameBySum r.files r.stopper r.shares asked n text ⊎ CameByText asked n
         → (n ≡ 4) ↔ HasBadTree b.sum.problem
     by_came same (inl c) =
         let one = same_beginning r.files request c.beginning b knows (subst (λ x. Begins r.files x c.beginning) same c.begins) begins in
@@ -135,7 +135,7 @@ answered b stopper shares _ _ _ sums (paused source next residues source_is) sti
 pub decided : (r : Run) (n : ℕ) → Ends r n → IsDecided r n
 decided r n e served taken still request b asks knows begins = by_end e
   where
-    by_came : {asked : Request} {text : List ℕ} → asked ≡ request → CameBySum r.files r.stopper r.shares asked n text ⊎ CameByText r.shares asked n
+    by_came : {asked : Request} {text : List ℕ} → asked ≡ request → CameBySum r.files r.stopper r.shares asked n text ⊎ CameByText asked n
         → IsStatusOf b n ⊎ (n ≡ 9)
     by_came same (inl c) =
         let one = same_beginning r.files request c.beginning b knows (subst (λ x. Begins r.files x c.beginning) same c.begins) begins in
@@ -160,10 +160,10 @@ decided r n e served taken still request b asks knows begins = by_end e
     by_end (want_of_memory nine w) = inr nine
     by_end (range_refused ten w) =
         absurd (text_begins_nothing r.files request b begins
-        (inr (inr (w.name, w.number, same_request r request (unrank w.name w.number) asks w.words))))
+        (subst AsksText (same_request r w.request request w.words asks) (out_of_range_asks w.problem w.request w.out_of_range)))
     by_end (tree_refused eleven w) =
         absurd (text_begins_nothing r.files request b begins
-        (inr (inl (w.name, w.text, same_request r request (rank w.name w.text) asks w.words))))
+        (inr (inr (inl (w.name, w.text, same_request r request (rank w.name w.text) asks w.words)))))
     by_end (problem_refused three w) =
         let same = same_request r request w.request asks w.words in
         let named : problem_file_of request ≡ Some w.name = ap problem_file_of same ∙ w.asked in

@@ -4,7 +4,6 @@ use Rattle.command_line.specs.Requests.{Request}
 use Rattle.lists.specs.declared.memory.NoMemory.{NoMemory}
 use Rattle.problem_toml.specs.declared.error.ProblemError.{ProblemError}
 use Rattle.tree_text.specs.declared.error.TreeTextError.{TreeTextError}
-use Rattle.problem.specs.Sums.{count_of}
 use Rattle.checkpoint.specs.declared.error.CheckpointError.{CheckpointError}
 use Rattle.locus_core.specs.Texts.{refused_line, refused_checkpoint_line, refused_tree_line, refused_range_line}
 use Rattle.locus_core.specs.declared.work.Refusal.TheVariants as refusal
@@ -97,19 +96,20 @@ refused_ends run request _ answer asks (steps.tree name text p reason same file 
     })
 refused_ends run request _ answer asks (steps.tree name text p reason same file refused kept still) out none (steps.unheard_tree error is err) =
     ends.want_of_memory is (record { request = request; words = asks; files = kept; stopper = inl still; out = out; shares = none; err = err })
-refused_ends run request _ answer asks (steps.range name number p same file above kept still) out none (steps.range count is err) =
+refused_ends run request _ answer asks (steps.range name p asked file outside kept still) out none (steps.range count is err) =
     ends.range_refused is (record {
+      request = request;
       name = name;
-      number = number;
       problem = p;
-      words = subst (AsksFor run.words) same asks;
+      words = asks;
+      asked = asked;
       file = file;
-      above = above;
+      out_of_range = outside;
       files = kept;
       idle = record { out = out; stopper = still; shares = none };
       err = err;
     })
-refused_ends run request _ answer asks (steps.range name number p same file above kept still) out none (steps.unheard_range count is err) =
+refused_ends run request _ answer asks (steps.range name p asked file outside kept still) out none (steps.unheard_range count is err) =
     ends.want_of_memory is (record { request = request; words = asks; files = kept; stopper = inl still; out = out; shares = none; err = err })
 refused_ends run request _ answer asks (steps.no_memory kept stopped) out none (steps.no_memory is err) =
     ends.want_of_memory is (record { request = request; words = asks; files = kept; stopper = stopped; out = out; shares = none; err = err })

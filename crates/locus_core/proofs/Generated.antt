@@ -7,7 +7,6 @@ use Rattle.problem_toml.specs.Generator.{generated_problem}
 use Rattle.checkpoint.specs.States.{AreResidues}
 use Rattle.rounds.specs.Outcomes.{IsProgress, IsEarly}
 use Rattle.rounds.specs.declared.progress.Progress.{Progress}
-use Rattle.rounds.specs.declared.progress.Outcome.{Outcome}
 use Rattle.locus_io.specs.Causes.{Stayed}
 use Rattle.locus_core.specs.Outside.{Change, StopperState}
 use Rattle.locus_core.specs.Begins.{fresh_sum, of_number}

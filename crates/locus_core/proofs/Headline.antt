@@ -13,19 +13,19 @@ use Rattle.problem_toml.specs.Reading.{reading}
 use Rattle.report.specs.Outcome.{LacksInverse}
 use Rattle.report.proofs.Sums.{sums_found}
 use Rattle.rounds.specs.Rounds.{budget_end, reached}
-use Rattle.rounds.specs.Outcomes.{SumView, IsDone, IsPaused, IsNoInverse, IsTrueSum}
+use Rattle.rounds.specs.Outcomes.{SumView, IsDone, IsPaused, IsNoInverse}
 use Rattle.rounds.specs.declared.progress.Outcome.{Outcome}
 use Rattle.rounds.specs.declared.progress.Outcome.TheVariants.{Done, Paused}
 use Rattle.rounds.proofs.Running.{keeps_truth}
 use Rattle.command_line.specs.Requests.{Request, make, rank, unrank}
 use Rattle.locus_core.specs.Words.{AsksFor}
 use Rattle.locus_core.specs.Outside.{Change, FilesState, StopperState, Unchanged, TakesText, BreaksOff}
-use Rattle.locus_core.specs.Begins.{Beginning, Begins, by_run, by_resume, by_soak, IsTrueBeginning}
-use Rattle.locus_core.specs.Comes.{Comes, summed, made, ranked, unranked, RunsRounds, IsAnswer, done, paused, no_inverse}
+use Rattle.locus_core.specs.Begins.{Beginning, Begins, by_run, by_resume, by_soak}
+use Rattle.locus_core.specs.Comes.{Comes, summed, made, ranked, unranked, listed, RunsRounds, IsAnswer, done, paused, no_inverse}
 use Rattle.locus_core.specs.Ends.{Run, Printed, WordsRefused, ProblemRefused, CheckpointRefused, ReadFault, WriteFault, WantOfMemory, RangeRefused, TreeRefused, Ends, printed, words_refused, problem_refused, read_fault, write_fault, checkpoint_refused, want_of_memory, range_refused, tree_refused}
-use Rattle.locus_core.specs.Headline.{IsDoneStatus, IsPrintedStatus, end_of, PrintsSums, PrintsItsSums, NamesLeast, PrintsCheckpoint, SharesBlocks, SumsNothing, IsSilentStatus, ClaimsBlocks, WritesBytes}
+use Rattle.locus_core.specs.Headline.{IsDoneStatus, IsPrintedStatus, end_of, PrintsSums, PrintsItsSums, NamesLeast, PrintsCheckpoint, SharesBlocks, SharesList, NeedsNoWorkers, SumsNothing, IsSilentStatus, ClaimsBlocks, WritesBytes}
 use Rattle.locus_core.proofs.TrueSums.{none_bad_before, true_at}
-use Rattle.locus_core.proofs.Inversions.{same_request, AsksText, text_begins_nothing}
+use Rattle.locus_core.proofs.Inversions.{same_request, AsksAlone, AsksText, alone_lists_nothing, text_begins_nothing}
 use Rattle.locus_core.proofs.Consequences.{done_is, came, came_printed, CameBySum, CameByText, never}
 use Rattle.locus_core.proofs.Decided.{small_degree, below_count, no_bad_tree, paused_end}
 
@@ -104,12 +104,14 @@ as_printed r n is (tree_refused e w) f = absurd (never n 11 is e refl)
 
 -- words for another text than that of a sum
 pub sums_nothing : (r : Run) (request : Request) → AsksFor r.words request → AsksText request → SumsNothing r
-sums_nothing r request asks (inl (k, same)) = inl (k, subst (AsksFor r.words) same asks)
-sums_nothing r request asks (inr (inl (name, text, same))) = inr (inl (name, text, subst (AsksFor r.words) same asks))
-sums_nothing r request asks (inr (inr (name, k, same))) = inr (inr (name, k, subst (AsksFor r.words) same asks))
+sums_nothing r request asks (inl (name, low, high, workers, same)) =
+    inl (name, low, high, workers, subst (AsksFor r.words) same asks)
+sums_nothing r request asks (inr (inl (k, same))) = inr (inl (k, subst (AsksFor r.words) same asks))
+sums_nothing r request asks (inr (inr (inl (name, text, same)))) = inr (inr (inl (name, text, subst (AsksFor r.words) same asks)))
+sums_nothing r request asks (inr (inr (inr (name, k, same)))) = inr (inr (inr (name, k, subst (AsksFor r.words) same asks)))
 
--- the request of such words
-nothing_asked : (r : Run) (request : Request) → AsksFor r.words request → SumsNothing r → AsksText request
+-- the request of words for what needs no workers
+nothing_asked : (r : Run) (request : Request) → AsksFor r.words request → NeedsNoWorkers r → AsksAlone request
 nothing_asked r request asks (inl (k, other)) = inl (k, same_request r request (make k) asks other)
 nothing_asked r request asks (inr (inl (name, text, other))) = inr (inl (name, text, same_request r request (rank name text) asks other))
 nothing_asked r request asks (inr (inr (name, k, other))) = inr (inr (name, k, same_request r request (unrank name k) asks other))
@@ -118,7 +120,7 @@ pub sums : (r : Run) (n : ℕ) → Ends r n → PrintsItsSums r n
 sums r n e some is = as_printed r n (inl is) e (λ request text asks comes out. by request text asks out (came comes))
   where
     by : (request : Request) (text : List ℕ) → AsksFor r.words request → TakesText r.out text
-        → CameBySum r.files r.stopper r.shares request n text ⊎ CameByText r.shares request n → PrintsSums r n
+        → CameBySum r.files r.stopper r.shares request n text ⊎ CameByText request n → PrintsSums r n
     by request text asks out (inl c) = sums_printed r request c.beginning c.outcome n text asks c.begins c.sums c.answer out is
     by request text asks out (inr c) = absurd (some (sums_nothing r request asks c.asked))
 
@@ -192,7 +194,7 @@ pub refusal : (r : Run) (n : ℕ) → Ends r n → n ≡ 4 → NamesLeast r
 refusal r n e is = as_printed r n (inr (inl is)) e (λ request text asks comes out. by request text asks out (came comes))
   where
     by : (request : Request) (text : List ℕ) → AsksFor r.words request → TakesText r.out text
-        → CameBySum r.files r.stopper r.shares request n text ⊎ CameByText r.shares request n → NamesLeast r
+        → CameBySum r.files r.stopper r.shares request n text ⊎ CameByText request n → NamesLeast r
     by request text asks out (inl c) = least_printed r request c.beginning c.outcome n text asks c.begins c.sums c.answer out is
     by request text asks out (inr c) = let zero = c.zero in absurd (omega (arith, zero, is))
 
@@ -243,49 +245,66 @@ pub pause : (r : Run) (n : ℕ) → Ends r n → n ≡ 5 → PrintsCheckpoint r
 pause r n e is = as_printed r n (inr (inr is)) e (λ request text asks comes out. by request text asks out (came comes))
   where
     by : (request : Request) (text : List ℕ) → AsksFor r.words request → TakesText r.out text
-        → CameBySum r.files r.stopper r.shares request n text ⊎ CameByText r.shares request n → PrintsCheckpoint r
+        → CameBySum r.files r.stopper r.shares request n text ⊎ CameByText request n → PrintsCheckpoint r
     by request text asks out (inl c) = pause_printed r request c.beginning c.outcome n text asks c.begins c.sums c.answer out is
     by request text asks out (inr c) = let zero = c.zero in absurd (omega (arith, zero, is))
 
 -- ---- shares
-by_sum : (r : Run) (n : ℕ) (request : Request) {m : ℕ} {text : List ℕ} → AsksFor r.words request
-    → CameBySum r.files r.stopper r.shares request m text ⊎ CameByText r.shares request m
-    → ((n ≡ m) × TakesText r.out text) ⊎ ((n ≡ 7) × BreaksOff r.out text) → SumsNothing r ⊎ SharesBlocks r n ⊎ IsSilentStatus n
-by_sum r n request {m} {text} asks (inl c) out = inr (inl (record {
-  beginning = c.beginning;
-  outcome = c.outcome;
+shared_by : (r : Run) (n : ℕ) (request : Request) {m : ℕ} {text : List ℕ} → AsksFor r.words request
+    → Comes r.files r.stopper r.shares request m text
+    → ((n ≡ m) × TakesText r.out text) ⊎ ((n ≡ 7) × BreaksOff r.out text)
+    → NeedsNoWorkers r ⊎ SharesBlocks r n ⊎ SharesList r n ⊎ IsSilentStatus n
+shared_by r n _ asks (summed request b outcome m text begins sums answer) out = inr (inl (record {
+  beginning = b;
+  outcome = outcome;
   status = m;
   text = text;
-  begun = record { request = request; words = asks; begins = c.begins };
-  progress = c.sums.progress;
-  answer = c.answer;
+  begun = record { request = request; words = asks; begins = begins };
+  progress = sums.progress;
+  answer = answer;
   out = out;
 }))
-by_sum r n request asks (inr c) out = inl (sums_nothing r request asks c.asked)
+shared_by r n _ asks (made k text reads none still) out = inl (inl (k, asks))
+shared_by r n _ asks (ranked name text p g file decorated has none still) out = inl (inr (inl (name, text, asks)))
+shared_by r n _ asks (unranked name p k file below none still) out = inl (inr (inr (name, k, asks)))
+shared_by r n _ asks (listed name low high workers p file range shares still) out = inr (inr (inl (record {
+  name = name;
+  low = low;
+  high = high;
+  workers = workers;
+  words = asks;
+  shares = shares;
+  status = ⊎_elim (λ o. inl o.0) (λ o. inr o.0) out;
+})))
 
--- nothing is summed for another text
+-- there are no shares if no workers are needed
 text_alone : {files : Change FilesState} {stopper : Change StopperState} {shares : List ℕ} {request : Request} {n : ℕ} {text : List ℕ}
-    → Comes files stopper shares request n text → AsksText request → shares ≡ []
-text_alone {files} (summed request b outcome n text begins sums answer) e = absurd (text_begins_nothing files request b begins e)
+    → Comes files stopper shares request n text → AsksAlone request → shares ≡ []
+text_alone {files} (summed request b outcome n text begins sums answer) e =
+    absurd (text_begins_nothing files request b begins (inr e))
 text_alone (made k text reads none still) e = none
 text_alone (ranked name text p g file decorated has none still) e = none
 text_alone (unranked name p k file below none still) e = none
+text_alone (listed name low high workers p file range shares still) e = absurd (alone_lists_nothing name low high workers e)
 
 pub claims : (r : Run) (n : ℕ) → Ends r n → ClaimsBlocks r n
 claims r n e = (shared e, none e)
   where
-    shared : Ends r n → SumsNothing r ⊎ SharesBlocks r n ⊎ IsSilentStatus n
-    shared (printed w) = by_sum r n w.request w.words (came w.comes) (inl (refl, w.out))
-    shared (write_fault seven w) = by_sum r n w.request w.words (came w.comes) (inr (seven, w.out))
-    shared (words_refused k w) = inr (inr (inl k))
-    shared (problem_refused k w) = inr (inr (inr (inl k)))
-    shared (read_fault k w) = inr (inr (inr (inr (inl k))))
-    shared (checkpoint_refused k w) = inr (inr (inr (inr (inr (inl k)))))
-    shared (want_of_memory k w) = inr (inr (inr (inr (inr (inr (inl k))))))
-    shared (range_refused k w) = inr (inr (inr (inr (inr (inr (inr (inl k)))))))
-    shared (tree_refused k w) = inr (inr (inr (inr (inr (inr (inr (inr k)))))))
+    silent : IsSilentStatus n → NeedsNoWorkers r ⊎ SharesBlocks r n ⊎ SharesList r n ⊎ IsSilentStatus n
+    silent is = inr (inr (inr is))
 
-    none : Ends r n → SumsNothing r ⊎ IsSilentStatus n → r.shares ≡ []
+    shared : Ends r n → NeedsNoWorkers r ⊎ SharesBlocks r n ⊎ SharesList r n ⊎ IsSilentStatus n
+    shared (printed w) = shared_by r n w.request w.words w.comes (inl (refl, w.out))
+    shared (write_fault seven w) = shared_by r n w.request w.words w.comes (inr (seven, w.out))
+    shared (words_refused k w) = silent (inl k)
+    shared (problem_refused k w) = silent (inr (inl k))
+    shared (read_fault k w) = silent (inr (inr (inl k)))
+    shared (checkpoint_refused k w) = silent (inr (inr (inr (inl k))))
+    shared (want_of_memory k w) = silent (inr (inr (inr (inr (inl k)))))
+    shared (range_refused k w) = silent (inr (inr (inr (inr (inr (inl k))))))
+    shared (tree_refused k w) = silent (inr (inr (inr (inr (inr (inr k))))))
+
+    none : Ends r n → NeedsNoWorkers r ⊎ IsSilentStatus n → r.shares ≡ []
     none (printed w) (inl nothing) = text_alone w.comes (nothing_asked r w.request w.words nothing)
     none (printed w) (inr is) = absurd (silent_never n (came_printed w.comes) is)
     none (write_fault seven w) (inl nothing) = text_alone w.comes (nothing_asked r w.request w.words nothing)

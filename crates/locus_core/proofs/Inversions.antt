@@ -11,14 +11,15 @@ use Rattle.checkpoint.specs.Texts.{IsTextOf}
 use Rattle.checkpoint.specs.Refusals.{IsCheckpointRefusal}
 use Rattle.checkpoint.specs.declared.error.CheckpointError.{CheckpointError}
 use Rattle.checkpoint.proofs.ReadingLaws.{state_is_read, refusal_is_read}
-use Rattle.command_line.specs.Requests.{Request, Sum, run, resume, make, soak, rank, unrank}
+use Rattle.command_line.specs.Requests.{Request, Sum, run, resume, make, soak, trees, rank, unrank}
 use Rattle.command_line.specs.declared.table.Commands.TheVariants.{Built}
 use Rattle.command_line.proofs.Consequences.{one_request}
 use Rattle.locus_core.specs.Words.{AsksFor}
 use Rattle.locus_core.specs.Outside.{Change, FilesState, Holds}
 use Rattle.locus_core.specs.Begins.{Beginning, Begins, by_run, by_resume, by_soak, of_text, of_state, of_number, plan_of}
-use Rattle.locus_core.specs.Comes.{file_of_request, problem_file_of}
+use Rattle.locus_core.specs.Comes.{HoldsProblem, IsOutOfRange, file_of_request, problem_file_of}
 use Rattle.locus_core.specs.Ends.{Run}
+use Rattle.locus_core.specs.Headline.{AsksOf}
 
 -- the words ask for one thing
 pub same_request : (r : Run) (a b : Request) → AsksFor r.words a → AsksFor r.words b → a ≡ b
@@ -44,7 +45,8 @@ kind_of (make number) = 2
 kind_of (soak number workers) = 3
 kind_of (rank name text) = 4
 kind_of (unrank name number) = 5
-kind_of _ = 6
+kind_of (trees name low high workers) = 6
+kind_of _ = 7
 
 pub differ : (a b : Request) → a ≡ b → kind_of a ≢ kind_of b → ⊥
 differ a b e h = h (ap kind_of e)
@@ -64,14 +66,19 @@ resume_not_make s number e = let n = ap kind_of e in cc
 -- a problem is asked for by the name of its file
 pub file_of_problem : (request : Request) (name : List ℕ) → problem_file_of request ≡ Some name → file_of_request request ≡ Some name
 file_of_problem (run s) name e = e
+file_of_problem (trees file low high workers) name e = e
 file_of_problem (rank file text) name e = e
 file_of_problem (unrank file number) name e = e
 file_of_problem _ name e = absurd (let f : ⊥ = cc in f)
 
 -- ---- requests for another text than that of a sum
-abbrev pub AsksText : Request → Type 0
-AsksText request = ((number : ℕ) × (request ≡ make number)) ⊎ ((name text : List ℕ) × (request ≡ rank name text))
+-- for one that needs no workers
+abbrev pub AsksAlone : Request → Type 0
+AsksAlone request = ((number : ℕ) × (request ≡ make number)) ⊎ ((name text : List ℕ) × (request ≡ rank name text))
     ⊎ ((name : List ℕ) × (number : ℕ) × (request ≡ unrank name number))
+
+abbrev pub AsksText : Request → Type 0
+AsksText request = ((name : List ℕ) × (low high workers : ℕ) × (request ≡ trees name low high workers)) ⊎ AsksAlone request
 
 abbrev sums : Request → Bool
 sums (run s) = true
@@ -80,9 +87,21 @@ sums (soak number workers) = true
 sums _ = false
 
 text_sums_nothing : (request : Request) → AsksText request → sums request ≡ false
-text_sums_nothing request (inl (number, e)) = ap sums e
-text_sums_nothing request (inr (inl (name, text, e))) = ap sums e
-text_sums_nothing request (inr (inr (name, number, e))) = ap sums e
+text_sums_nothing request (inl (name, low, high, workers, e)) = ap sums e
+text_sums_nothing request (inr (inl (number, e))) = ap sums e
+text_sums_nothing request (inr (inr (inl (name, text, e)))) = ap sums e
+text_sums_nothing request (inr (inr (inr (name, number, e)))) = ap sums e
+
+pub alone_lists_nothing : (name : List ℕ) (low high workers : ℕ) → AsksAlone (trees name low high workers) → ⊥
+alone_lists_nothing name low high workers (inl (k, e)) = differ (trees name low high workers) (make k) e (λ x. cc)
+alone_lists_nothing name low high workers (inr (inl (other, text, e))) = differ (trees name low high workers) (rank other text) e (λ x. cc)
+alone_lists_nothing name low high workers (inr (inr (other, k, e))) = differ (trees name low high workers) (unrank other k) e (λ x. cc)
+
+-- numbers out of range are asked for
+pub out_of_range_asks : (p : ProblemView) (request : Request) → IsOutOfRange p request → AsksText request
+out_of_range_asks p (trees name low high workers) h = inl (name, low, high, workers, refl)
+out_of_range_asks p (unrank name number) h = inr (inr (inr (name, number, refl)))
+out_of_range_asks p _ h = absurd h
 
 pub resume_is_sum : (s : Sum) → AsksText (resume s) → ⊥
 resume_is_sum s asks = false≢true (sym (text_sums_nothing (resume s) asks))
@@ -214,3 +233,12 @@ same_beginning files _ _ b (inl told) (by_resume s bytes state file is_state of)
         let same = same_bytes files told s.file s.file bytes h.bytes is refl (told_bytes files told s.file bytes is file) h.file in
         let states = same_state bytes state h.state is_state of h.is_state (subst (IsTextOf h.state) (sym same) h.text) in
         ap (λ x. of_state x (plan_of s)) states ∙ sym h.is
+
+-- the file that is asked for writes one problem
+pub one_problem : (r : Run) (told : NamedFiles) (request : Request) (bytes name : List ℕ) (p q : ProblemView) → r.files.before.content ≡ Some told
+    → AsksOf r told request bytes → file_of_request request ≡ Some name → reading bytes ≡ Ok p → HoldsProblem r.files name q → q ≡ p
+one_problem r told request bytes name p q is asks named reads h =
+    let same = same_file request request asks.name name refl asks.asked named in
+    let b : bytes ≡ h.bytes = same_bytes r.files told asks.name name bytes h.bytes is same asks.file h.file in
+    let both : Ok q ≡ Ok p = sym h.reads ∙ ap reading (sym b) ∙ reads in
+    cc

@@ -1,7 +1,9 @@
--- What `rank` and `unrank` print, when they are refused, and that each undoes the other: read off from how the run ended.
+-- What `rank` and `unrank` print, when they are refused, and that each undoes the other, and the same of `trees`: read off from
+-- how the run ended.
 use Rattle.std.proofs.Common.{◌≡◌, ◌≢◌, ◌⊎◌, ℕ, inl, inr, ◌<◌, ◌≤◌, ◌^◌, true, List, [], ◌++◌, Some, Ok, codes, decimal, refl, sym, ap, ◌∙◌, subst, arith}
 use Rattle.std.proofs.lemmas.Bool.{cases_eq}
 use Rattle.std.proofs.lemmas.Fmt.{decimal_injective}
+use Rattle.std.proofs.lemmas.Option.{same_Some}
 use Rattle.std.proofs.lemmas.List.{append_cancel_left, append_cancel_right}
 use Rattle.trees.specs.Decorated.{DecoratedTree, TreeShape, is_decorated}
 use Rattle.trees.specs.Texts.{tree_text}
@@ -21,21 +23,22 @@ use Rattle.locus_io.specs.Content.{NamedFiles}
 use Rattle.problem.specs.Rules.{ProblemView}
 use Rattle.problem.specs.Sums.{count_of}
 use Rattle.problem_toml.specs.Reading.{reading}
-use Rattle.command_line.specs.Requests.{Request, resume, make, rank, unrank}
+use Rattle.command_line.specs.Requests.{Request, resume, make, trees, rank, unrank}
 use Rattle.command_line.specs.declared.table.Commands.TheVariants.{Built}
 use Rattle.command_line.proofs.Within.{asked_within}
 use Rattle.locus_core.specs.Words.{AsksFor}
 use Rattle.locus_core.specs.Texts.{number_line, tree_line}
 use Rattle.locus_core.specs.Outside.{Change, FilesState, StopperState, TakesText}
-use Rattle.locus_core.specs.Comes.{Comes, summed, made, ranked, unranked, HoldsProblem, file_of_request}
+use Rattle.locus_core.specs.Comes.{Comes, summed, made, ranked, unranked, listed, HoldsProblem, IsOutOfRange, file_of_request, problem_file_of}
 use Rattle.locus_core.specs.Ends.{Run, Ends, printed, words_refused, problem_refused, read_fault, write_fault, checkpoint_refused, want_of_memory, range_refused, tree_refused}
 use Rattle.locus_core.specs.Headline.{AsksOf}
 use Rattle.locus_core.specs.Chains.{HasPrinted}
 use Rattle.locus_core.specs.Numbers.{PrintsNumber, PrintsTree, PrintsNumbers, IsRefusedUnless, DecidesNumbers, AsksOfBytes, PrintsBut, UndoesNumbers}
-use Rattle.locus_core.proofs.Inversions.{same_request, same_bytes, same_file, differ, text_begins_nothing}
+use Rattle.locus_core.proofs.Inversions.{same_request, same_bytes, same_file, one_problem, differ, text_begins_nothing}
 use Rattle.locus_core.proofs.Consequences.{if_told, is_no_error, accepts_problem}
 use Rattle.locus_core.proofs.Decided.{small_degree}
 use Rattle.locus_core.proofs.Headline.{as_printed}
+use Rattle.locus_core.proofs.TreeLists.{prints_list, lists}
 use Rattle.locus_core.proofs.SameEnds.{same_text}
 
 -- ---- texts of trees
@@ -102,7 +105,9 @@ came_by_rank {files} name text (ranked other t p g h decorated has none still) e
   line_is = refl;
 }
 came_by_rank {files} name text (summed request b outcome n line begins sums answer) e =
-    absurd (text_begins_nothing files request b begins (inr (inl (name, text, e))))
+    absurd (text_begins_nothing files request b begins (inr (inr (inl (name, text, e)))))
+came_by_rank name text (listed other low high workers p h range shares still) e =
+    absurd (differ (trees other low high workers) (rank name text) e (λ x. cc))
 came_by_rank name text (made k line reads none still) e = absurd (differ (make k) (rank name text) e (λ x. cc))
 came_by_rank name text (unranked other p k h below none still) e = absurd (differ (unrank other k) (rank name text) e (λ x. cc))
 
@@ -125,13 +130,15 @@ came_by_unrank {files} name number (unranked other p k h below none still) e =
       line_is = ap (λ x. tree_line (tree_of p.shape x)) same;
     }
 came_by_unrank {files} name number (summed request b outcome n line begins sums answer) e =
-    absurd (text_begins_nothing files request b begins (inr (inr (name, number, e))))
+    absurd (text_begins_nothing files request b begins (inr (inr (inr (name, number, e)))))
+came_by_unrank name number (listed other low high workers p h range shares still) e =
+    absurd (differ (trees other low high workers) (unrank name number) e (λ x. cc))
 came_by_unrank name number (made k line reads none still) e = absurd (differ (make k) (unrank name number) e (λ x. cc))
 came_by_unrank name number (ranked other t p g h decorated has none still) e = absurd (differ (rank other t) (unrank name number) e (λ x. cc))
 
 -- ---- what is printed
 pub numbers : (r : Run) (n : ℕ) → Ends r n → PrintsNumbers r n
-numbers r n e zero = (by_rank, by_unrank)
+numbers r n e zero = (by_rank, by_unrank, prints_list r n e zero)
   where
     by_rank : (name text : List ℕ) → AsksFor r.words (rank name text) → PrintsNumber r name text
     by_rank name text asks = as_printed r n (inl (inl zero)) e (λ request line words comes out.
@@ -151,16 +158,7 @@ numbers r n e zero = (by_rank, by_unrank)
         record { problem = c.problem; file = c.file; below = c.below; out = subst (TakesText r.out) c.line_is out })
 
 -- ---- when they are refused
--- the file that is asked for writes one problem
-one_problem : (r : Run) (told : NamedFiles) (request : Request) (bytes name : List ℕ) (p q : ProblemView) → r.files.before.content ≡ Some told
-    → AsksOf r told request bytes → file_of_request request ≡ Some name → reading bytes ≡ Ok p → HoldsProblem r.files name q → q ≡ p
-one_problem r told request bytes name p q is asks named reads h =
-    let same = same_file request request asks.name name refl asks.asked named in
-    let b : bytes ≡ h.bytes = same_bytes r.files told asks.name name bytes h.bytes is same asks.file h.file in
-    let both : Ok q ≡ Ok p = sym h.reads ∙ ap reading (sym b) ∙ reads in
-    cc
-
--- and so its bytes are read
+-- the bytes of the file that is asked for are read
 reads_so : (r : Run) (told : NamedFiles) (request : Request) (bytes name : List ℕ) (q : ProblemView) → r.files.before.content ≡ Some told
     → AsksOf r told request bytes → file_of_request request ≡ Some name → HoldsProblem r.files name q → reading bytes ≡ Ok q
 reads_so r told request bytes name q is asks named h =
@@ -189,8 +187,7 @@ ranks r n e told is bytes p six nine reads name text asks = by_end e
     by_end (read_fault fault w) = absurd (six fault)
     by_end (checkpoint_refused eight w) = absurd (differ (resume w.sum) (rank name text) (same (resume w.sum) w.words) (λ x. cc))
     by_end (want_of_memory memory w) = absurd (nine memory)
-    by_end (range_refused ten w) =
-        absurd (differ (unrank w.name w.number) (rank name text) (same (unrank w.name w.number) w.words) (λ x. cc))
+    by_end (range_refused ten w) = absurd (subst (IsOutOfRange w.problem) (same w.request w.words) w.out_of_range)
     by_end (tree_refused eleven w) =
         let s = same (rank w.name w.text) w.words in
         let file = subst (λ x. HoldsProblem r.files x w.problem) (ap name_in s) w.file in
@@ -224,16 +221,17 @@ unranks r n e told is bytes p six nine reads name number asks = by_end e
     by_end (tree_refused eleven w) =
         absurd (differ (rank w.name w.text) (unrank name number) (same (rank w.name w.text) w.words) (λ x. cc))
     by_end (range_refused ten w) =
-        let s = same (unrank w.name w.number) w.words in
-        let file = subst (λ x. HoldsProblem r.files x w.problem) (ap name_in s) w.file in
+        let s = same w.request w.words in
+        let file = subst (λ x. HoldsProblem r.files x w.problem) (same_Some w.name name (sym w.asked ∙ ap problem_file_of s)) w.file in
         let one = one_problem r told (unrank name number) bytes name p w.problem is asks refl reads file in
-        let above : count_of p ≤ number = subst (λ q. count_of q ≤ number) one (subst (λ k. count_of w.problem ≤ k) (ap number_in s) w.above) in
+        let above : count_of p ≤ number = subst (λ q. count_of q ≤ number) one (subst (IsOutOfRange w.problem) s w.out_of_range) in
         inr (λ below. omega (arith, above, below), ten)
 
 pub decides : (r : Run) (n : ℕ) → Ends r n → DecidesNumbers r n
 decides r n e = if_told r.files.before.content _ (λ told is bytes p six nine reads. (
   λ name text asks. ranks r n e told is bytes p six nine reads name text asks,
   λ name number asks. unranks r n e told is bytes p six nine reads name number asks,
+  λ name low high workers asks. lists r n e told is bytes p six nine reads name low high workers asks,
 ))
 
 -- ---- two runs

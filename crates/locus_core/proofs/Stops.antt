@@ -1,11 +1,11 @@
 -- Where a run pauses if somebody asks for a stop.
-use Rattle.std.proofs.Common.{◌≡◌, ◌⊎◌, ℕ, inl, inr, ◌+◌, ◌<◌, List, Option, Some, None, IfSome, IsSome, refl, sym, ◌∙◌, arith, ⊎_elim}
+use Rattle.std.proofs.Common.{◌≡◌, ◌⊎◌, ℕ, inl, inr, ◌+◌, List, Option, Some, None, IfSome, IsSome, refl, sym, ◌∙◌, arith, ⊎_elim}
 use Rattle.std.proofs.lemmas.Bool.{false≢true, cases_lt}
 use Rattle.command_line.specs.Requests.{Request}
 use Rattle.locus_core.specs.Words.{AsksFor}
 use Rattle.locus_core.specs.Outside.{Change, FilesState, StopperState, Unchanged, HasStopped}
 use Rattle.locus_core.specs.Begins.{Beginning, Begins, by_run, by_resume, by_soak}
-use Rattle.locus_core.specs.Comes.{Comes, summed, made, ranked, unranked, RunsRounds, IsAnswer, done, paused, no_inverse, stop_file_of, MayHaveStopped}
+use Rattle.locus_core.specs.Comes.{Comes, summed, made, ranked, unranked, listed, RunsRounds, IsAnswer, done, paused, no_inverse, stop_file_of}
 use Rattle.locus_core.specs.Ends.{Run, Ends, printed, words_refused, problem_refused, read_fault, write_fault, checkpoint_refused, want_of_memory, range_refused, tree_refused}
 use Rattle.locus_core.specs.Headline.{HasStopFile, HeedsStops}
 
@@ -47,6 +47,7 @@ by_comes r asks (summed request b outcome n text begins sums answer) = by_answer
 by_comes r asks (made number text reads none still) = inl still
 by_comes r asks (ranked name text p g file decorated has none still) = inl still
 by_comes r asks (unranked name p number file below none still) = inl still
+by_comes r asks (listed name low high workers p file range shares still) = inl still
 
 pub stops : (r : Run) (n : ℕ) → Ends r n → HeedsStops r n
 stops r n (printed w) = ⊎_elim (λ still. inl still) (λ s. inr (s.0, inl s.1)) (by_comes r w.words w.comes)

@@ -1,5 +1,5 @@
 -- A sum of fractions has no residue if one of its terms has none. So no tree is bad that went into true residues.
-use Rattle.std.proofs.Common.{◌≡◌, ℕ, ◌+◌, ◌%◌, ◌<◌, ◌≤◌, ◌⊎◌, inl, inr, ℤ, List, refl, sym, ◌∙◌, subst, arith, nat_abs, []}
+use Rattle.std.proofs.Common.{◌≡◌, ℕ, ◌+◌, ◌<◌, ◌≤◌, inl, inr, ℤ, List, refl, sym, ◌∙◌, subst, arith, nat_abs, []}
 use Rattle.arithmetic.specs.Numbers.{gcd}
 use Rattle.arithmetic.proofs.Residues.{unit_first, unit_second}
 use Rattle.trees.specs.Decorated.{TreeShape}

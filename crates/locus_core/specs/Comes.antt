@@ -1,5 +1,5 @@
 -- What is asked for comes to.
-use Rattle.std.specs.Prelude.{◌≡◌, ◌⊎◌, ℕ, ◌<◌, true, List, [], ◌++◌, Option, Some, None, Ok, IsSome, IfSome}
+use Rattle.std.specs.Prelude.{◌≡◌, ◌⊎◌, ℕ, ◌<◌, ◌≤◌, true, List, [], ◌++◌, Option, Some, None, Ok, IsSome, IfSome}
 use Rattle.trees.specs.Decorated.{DecoratedTree, is_decorated}
 use Rattle.trees.specs.Texts.{tree_text}
 use Rattle.trees.specs.TreeNumbers.{tree_of, number_of}
@@ -16,7 +16,9 @@ use Rattle.report.specs.Texts.{done_text, no_inverse_text}
 use Rattle.rounds.specs.Outcomes.{IsProgress, IsEarly}
 use Rattle.rounds.specs.declared.progress.Outcome.{Outcome}
 use Rattle.rounds.specs.declared.progress.Outcome.TheVariants.{Done, Paused, NoInverse}
-use Rattle.command_line.specs.Requests.{Request, run, resume, make, rank, unrank}
+use Rattle.command_line.specs.Requests.{Request, run, resume, make, trees, rank, unrank}
+use Rattle.tree_listing.specs.Ranges.{IsListable, ShareBlocks}
+use Rattle.tree_listing.specs.Texts.{trees_text}
 use Rattle.locus_core.specs.Outside.{Change, Unchanged, FilesState, StopperState, Holds, HasStopped}
 use Rattle.locus_core.specs.Begins.{Beginning, Begins}
 use Rattle.locus_core.specs.Texts.{number_line, tree_line}
@@ -51,7 +53,8 @@ pub record HoldsProblem (files : Change FilesState) (name : List ℕ) (p : Probl
   pub rules : KeepsRules p
 
 -- A sum was begun, and this is its answer; or a text was made that reads as the generated problem of a number; or of the
--- decorated trees of a problem, the one with a text has this number, or the one with a number has this text.
+-- decorated trees of a problem, the one with a text has this number, or the one with a number has this text, or those of a
+-- range of numbers were listed on so many workers.
 pub data Comes (files : Change FilesState) (stopper : Change StopperState) (shares : List ℕ) : Request → ℕ → List ℕ → Type 0 where
   summed : (request : Request) (b : Beginning) (outcome : Outcome) (status : ℕ) (text : List ℕ) → Begins files request b
       → RunsRounds b stopper shares outcome → IsAnswer b outcome status text → Comes files stopper shares request status text
@@ -62,11 +65,15 @@ pub data Comes (files : Change FilesState) (stopper : Change StopperState) (shar
       → Comes files stopper shares (rank name text) 0 (number_line (number_of p.shape g))
   unranked : (name : List ℕ) (p : ProblemView) (number : ℕ) → HoldsProblem files name p → number < count_of p → shares ≡ []
       → Unchanged stopper → Comes files stopper shares (unrank name number) 0 (tree_line (tree_of p.shape number))
+  listed : (name : List ℕ) (low high workers : ℕ) (p : ProblemView) → HoldsProblem files name p → IsListable p low high
+      → ShareBlocks low high workers shares → Unchanged stopper
+      → Comes files stopper shares (trees name low high workers) 0 (trees_text p low high)
 
 -- the file that is asked for
 abbrev pub file_of_request : Request → Option (List ℕ)
 file_of_request (run s) = Some s.file
 file_of_request (resume s) = Some s.file
+file_of_request (trees name low high workers) = Some name
 file_of_request (rank name text) = Some name
 file_of_request (unrank name number) = Some name
 file_of_request _ = None
@@ -74,9 +81,16 @@ file_of_request _ = None
 -- the same, if it is a problem that is asked for
 abbrev pub problem_file_of : Request → Option (List ℕ)
 problem_file_of (run s) = Some s.file
+problem_file_of (trees name low high workers) = Some name
 problem_file_of (rank name text) = Some name
 problem_file_of (unrank name number) = Some name
 problem_file_of _ = None
+
+-- The numbers that are asked for are not those of trees of the problem; or those of a list are none, or too many.
+abbrev pub IsOutOfRange : ProblemView → Request → Type 0
+IsOutOfRange p (trees name low high workers) = ¬ IsListable p low high
+IsOutOfRange p (unrank name number) = count_of p ≤ number
+IsOutOfRange p _ = ⊥
 
 -- the name of the file at whose presence the sum pauses
 abbrev pub stop_file_of : Request → Option (List ℕ)

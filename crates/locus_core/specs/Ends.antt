@@ -1,5 +1,5 @@
 -- How a run ends.
-use Rattle.std.specs.Prelude.{◌≡◌, ℕ, ◌≤◌, List, [], Some, Err, codes}
+use Rattle.std.specs.Prelude.{◌≡◌, ℕ, List, [], Some, Err, codes}
 use Rattle.problem.specs.Rules.{ProblemView}
 use Rattle.problem.specs.Sums.{count_of}
 use Rattle.problem_toml.specs.Reading.{reading}
@@ -9,11 +9,11 @@ use Rattle.checkpoint.specs.declared.error.CheckpointError.{CheckpointError}
 use Rattle.tree_text.specs.Refusals.{IsRefusal}
 use Rattle.tree_text.specs.declared.error.TreeTextError.{TreeTextError}
 use Rattle.command_words.specs.Words.{AreRefusedFirst}
-use Rattle.command_line.specs.Requests.{Request, Sum, resume, rank, unrank}
+use Rattle.command_line.specs.Requests.{Request, Sum, resume, rank}
 use Rattle.locus_core.specs.Words.{AsksFor, AskNothing}
 use Rattle.locus_core.specs.Texts.{refused_line, refused_checkpoint_line, refused_tree_line, refused_range_line}
 use Rattle.locus_core.specs.Outside.{Change, Unchanged, FilesState, StopperState, SinkState, Holds, HasFaultAt, TakesText, BreaksOff, Sends}
-use Rattle.locus_core.specs.Comes.{Comes, HoldsProblem, file_of_request, problem_file_of, MayHaveStopped}
+use Rattle.locus_core.specs.Comes.{Comes, HoldsProblem, IsOutOfRange, file_of_request, problem_file_of, MayHaveStopped}
 
 -- A run as it is seen from outside: its words, its files, the output, standard error and the stopper, and how many blocks
 -- each worker worked.
@@ -82,14 +82,16 @@ pub record CheckpointRefused (r : Run) : Type 0 where
   pub idle : IsIdle r
   pub err : Sends r.err (refused_checkpoint_line error)
 
--- The file was read, and the number is not below the number of the decorated trees of its problem, which the line names.
+-- The file was read, and the numbers are not those of decorated trees of its problem, or too many are to be listed, or none.
+-- The line names the number of the trees.
 pub record RangeRefused (r : Run) : Type 0 where
+  pub request : Request
   pub name : List ℕ
-  pub number : ℕ
   pub problem : ProblemView
-  pub words : AsksFor r.words (unrank name number)
+  pub words : AsksFor r.words request
+  pub asked : problem_file_of request ≡ Some name
   pub file : HoldsProblem r.files name problem
-  pub above : count_of problem ≤ number
+  pub out_of_range : IsOutOfRange problem request
   pub files : Unchanged r.files
   pub idle : IsIdle r
   pub err : Sends r.err (refused_range_line (count_of problem))

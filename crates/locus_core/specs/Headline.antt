@@ -17,7 +17,8 @@ use Rattle.checkpoint.specs.Texts.{IsTextOf, text_in}
 use Rattle.rounds.specs.Outcomes.{IsSummed, IsPaused, IsProgress}
 use Rattle.rounds.specs.declared.progress.Outcome.{Outcome}
 use Rattle.rounds.specs.Rounds.{budget_end}
-use Rattle.command_line.specs.Requests.{Request, Sum, resume, make, rank, unrank}
+use Rattle.command_line.specs.Requests.{Request, Sum, resume, make, trees, rank, unrank}
+use Rattle.tree_listing.specs.Ranges.{ShareBlocks}
 use Rattle.locus_core.specs.Words.{AsksFor}
 use Rattle.locus_core.specs.Outside.{Unchanged, HasStopped, TakesText, BreaksOff}
 use Rattle.locus_core.specs.Begins.{Beginning, Begins, IsTrueBeginning}
@@ -47,8 +48,8 @@ pub record AsksOf (r : Run) (told : NamedFiles) (request : Request) (bytes : Lis
 abbrev pub IsNoCheckpoint : List ℕ → Type 0
 IsNoCheckpoint bytes = (state : StateView) → IsState state → ¬ IsTextOf state bytes
 
--- If the file was read, and memory was not refused: where a problem is asked for, of `run`, `rank` and `unrank`, the bytes
--- decide whether they are refused, and so do those of a `resume`.
+-- If the file was read, and memory was not refused: where a problem is asked for, of `run`, `trees`, `rank` and `unrank`, the
+-- bytes decide whether they are refused, and so do those of a `resume`.
 abbrev pub Accepts : Run → ℕ → Type 0
 Accepts r n = IfSome r.files.before.content (λ told. (request : Request) (s : Sum) (bytes : List ℕ) → n ≢ 6 → n ≢ 9
     → (IsSome (problem_file_of request) → AsksOf r told request bytes → ((n ≡ 3) ↔ IsErr (reading bytes)))
@@ -153,9 +154,17 @@ IsRanking r = (name text : List ℕ) × AsksFor r.words (rank name text)
 abbrev pub IsUnranking : Run → Type 0
 IsUnranking r = (name : List ℕ) × (number : ℕ) × AsksFor r.words (unrank name number)
 
--- the words ask for no sum: for `make`, `rank` or `unrank`
+-- they ask for a list of trees
+abbrev pub IsListing : Run → Type 0
+IsListing r = (name : List ℕ) × (low high workers : ℕ) × AsksFor r.words (trees name low high workers)
+
+-- they ask for what needs no workers: for `make`, `rank` or `unrank`
+abbrev pub NeedsNoWorkers : Run → Type 0
+NeedsNoWorkers r = IsMaking r ⊎ IsRanking r ⊎ IsUnranking r
+
+-- they ask for no sum: for `trees`, or for what needs no workers
 abbrev pub SumsNothing : Run → Type 0
-SumsNothing r = IsMaking r ⊎ IsRanking r ⊎ IsUnranking r
+SumsNothing r = IsListing r ⊎ NeedsNoWorkers r
 
 -- what a done sum has printed
 abbrev pub PrintsItsSums : Run → ℕ → Type 0
@@ -209,9 +218,21 @@ pub record SharesBlocks (r : Run) (n : ℕ) : Type 0 where
 abbrev pub IsSilentStatus : ℕ → Type 0
 IsSilentStatus n = (n ≡ 2) ⊎ (n ≡ 3) ⊎ (n ≡ 6) ⊎ (n ≡ 8) ⊎ (n ≡ 9) ⊎ (n ≡ 10) ⊎ (n ≡ 11)
 
--- of a sum that was printed, or of which a prefix was, the shares are those of its rounds; otherwise there are none
+-- A list of trees was printed, or a prefix of it at status 7. Each worker has a share, and the shares add up to the blocks of
+-- its numbers.
+pub record SharesList (r : Run) (n : ℕ) : Type 0 where
+  pub name : List ℕ
+  pub low : ℕ
+  pub high : ℕ
+  pub workers : ℕ
+  pub words : AsksFor r.words (trees name low high workers)
+  pub shares : ShareBlocks low high workers r.shares
+  pub status : (n ≡ 0) ⊎ (n ≡ 7)
+
+-- Of a sum or a list that was printed, or of which a prefix was, the shares are those of its blocks; otherwise there are none.
 abbrev pub ClaimsBlocks : Run → ℕ → Type 0
-ClaimsBlocks r n = (SumsNothing r ⊎ SharesBlocks r n ⊎ IsSilentStatus n) × (SumsNothing r ⊎ IsSilentStatus n → r.shares ≡ [])
+ClaimsBlocks r n = (NeedsNoWorkers r ⊎ SharesBlocks r n ⊎ SharesList r n ⊎ IsSilentStatus n)
+    × (NeedsNoWorkers r ⊎ IsSilentStatus n → r.shares ≡ [])
 
 -- What was written, and where, for each status. Nothing goes to the output at the statuses that print no text, and the
 -- files count a fault at status 6 alone.

@@ -1,7 +1,7 @@
 -- The steps of a run.
-use Rattle.std.specs.Prelude.{◌≡◌, ℕ, ◌≤◌, suc, List, take, Some, Result, Ok, Err, IfSome, option_map, codes}
+use Rattle.std.specs.Prelude.{◌≡◌, ℕ, suc, List, take, Some, Result, Ok, Err, IfSome, option_map, codes}
 use Rattle.command_words.specs.Words.{AreRefusedFirst}
-use Rattle.command_line.specs.Requests.{Request, Sum, resume, rank, unrank}
+use Rattle.command_line.specs.Requests.{Request, Sum, resume, rank}
 use Rattle.locus_io.specs.Content.{file_of}
 use Rattle.problem_toml.specs.Reading.{reading}
 use Rattle.problem_toml.specs.declared.error.ProblemError.{ProblemError}
@@ -22,7 +22,7 @@ use Rattle.locus_core.specs.Words.{AsksFor, AskNothing}
 use Rattle.locus_core.specs.Texts.{refused_line, refused_checkpoint_line, refused_tree_line, refused_range_line}
 use Rattle.locus_core.specs.Outside.{Change, Unchanged, FilesState, StopperState, SinkState, Holds, HasFaultAt, TakesText, BreaksOff, Sends}
 use Rattle.locus_core.specs.Begins.{Beginning}
-use Rattle.locus_core.specs.Comes.{RunsRounds, IsAnswer, Comes, HoldsProblem, file_of_request, problem_file_of, MayHaveStopped}
+use Rattle.locus_core.specs.Comes.{RunsRounds, IsAnswer, Comes, HoldsProblem, IsOutOfRange, file_of_request, problem_file_of, MayHaveStopped}
 use Rattle.locus_core.specs.declared.work.Printable.{Printable}
 use Rattle.lists.specs.declared.memory.NoMemory.{NoMemory}
 use Rattle.locus_core.specs.declared.work.Refusal.{Refusal}
@@ -64,8 +64,8 @@ pub data WhyNot (request : Request) (files : Change FilesState) (stopper : Chang
       → IsCheckpointRefusal bytes error → Unchanged files → Unchanged stopper → WhyNot request files stopper (refusal.Checkpoint error)
   tree : (name text : List ℕ) (p : ProblemView) (error : TreeTextError) → request ≡ rank name text → HoldsProblem files name p
       → IsRefusal p.shape text error → Unchanged files → Unchanged stopper → WhyNot request files stopper (refusal.Tree error)
-  range : (name : List ℕ) (number : ℕ) (p : ProblemView) → request ≡ unrank name number → HoldsProblem files name p
-      → count_of p ≤ number → Unchanged files → Unchanged stopper → WhyNot request files stopper (refusal.Range (count_of p))
+  range : (name : List ℕ) (p : ProblemView) → problem_file_of request ≡ Some name → HoldsProblem files name p
+      → IsOutOfRange p request → Unchanged files → Unchanged stopper → WhyNot request files stopper (refusal.Range (count_of p))
   no_memory : Unchanged files → MayHaveStopped request stopper → WhyNot request files stopper refusal.NoMemory
 
 -- the answer of a step that fails for want of memory alone

@@ -30,6 +30,7 @@ refused_checkpoint_line error = codes "checkpoint refused " ++ checkpoints.refus
 abbrev pub refused_tree_line : TreeTextError → List ℕ
 refused_tree_line error = codes "tree refused " ++ trees.refusal_of error ++ codes "\n"
 
--- `range refused <count>`, the line on standard error if a number is not below the number of trees
+-- `range refused <count>`, the line on standard error if numbers are not those of trees, of which there are so many, or are
+-- too many
 abbrev pub refused_range_line : ℕ → List ℕ
 refused_range_line count = labelled_line (codes "range refused") count

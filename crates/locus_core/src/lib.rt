@@ -1,6 +1,7 @@
 //! The top call: from the words of the command line and the bytes of a file to what is printed.
 #![tactic(auto)]
 
+mod listing;
 mod numbers;
 mod printing;
 mod sums;

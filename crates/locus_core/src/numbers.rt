@@ -56,7 +56,11 @@ pub(crate) fn unrank<F: Files>(
 }
 
 /// The problem of a file.
-fn problem_of<F: Files>(alloc: Global, files: &mut F, name: &str) -> Result<Problem, Refusal>
+pub(crate) fn problem_of<F: Files>(
+    alloc: Global,
+    files: &mut F,
+    name: &str,
+) -> Result<Problem, Refusal>
     ensures { IsProblemOf name.now (files_change F.content F.faults F.last_fault files.old files.new) result }
 {
     let bytes = match load(alloc, files, name, MOST_PROBLEM) {

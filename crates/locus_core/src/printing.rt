@@ -122,7 +122,7 @@ fn tree_line(alloc: Global, error: &TreeTextError) -> Result<Vec<u8>, NoMemory>
     Ok(line)
 }
 
-/// The line of a number that is not below the number of trees, with its line feed.
+/// The line of numbers that are out of range, with its line feed.
 fn range_line(alloc: Global, count: u64) -> Result<Vec<u8>, NoMemory>
     ensures { IfOk result (λ line. line.items ≡ refused_range_line count) }
 {

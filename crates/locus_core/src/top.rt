@@ -24,10 +24,10 @@ use worker_pool::{Gate, Shares};
 pub struct Answer {
     /// The exit status: 0 done with a fraction for each integral, or a text was made; 1 done without a fraction for some
     /// integral; 2 words refused; 3 problem refused; 4 no inverse; 5 paused; 6 read fault; 7 write fault; 8 checkpoint
-    /// refused; 9 want of memory; 10 number not below the number of trees; 11 text of no tree of the problem.
+    /// refused; 9 want of memory; 10 numbers out of range; 11 text of no tree of the problem.
     pub status: u8,
     /// How many blocks of 64 trees each worker worked, one number for each worker: 0 for each if no tree was left to sum.
-    /// There are no numbers if no sum was begun, or nothing of it was printed for want of memory.
+    /// There are no numbers if no sum and no list was begun, or nothing of it was printed for want of memory.
     pub shares: Shares,
 }
 
@@ -61,7 +61,8 @@ fn end<R: Threads + Sync, F: Files, O: Sink, E: Sink, S: Stopper, G: Gate>(
 /// Does all that the program does: it reads the words, and does what they ask for. `run FILE` loads and reads a problem and
 /// sums the contributions of all its decorated trees, `resume FILE` goes on with a sum that was paused, `make N` writes a
 /// generated problem, and `soak N` sums one. `rank FILE TEXT` writes the number of a tree of a problem, and `unrank FILE K`
-/// the tree of a number. The whole text is made before its first byte is written.
+/// the tree of a number; `trees FILE LO HI` lists the trees of the numbers from LO to HI - 1 with the residues of their
+/// contributions. The whole text is made before its first byte is written.
 ///
 /// What is said of a file holds if `files` tells what it holds, and what is said of written bytes if the sink tells them.
 pub fn locus<R: Threads + Sync, F: Files, O: Sink, E: Sink, S: Stopper, G: Gate>(
@@ -86,8 +87,8 @@ pub fn locus<R: Threads + Sync, F: Files, O: Sink, E: Sink, S: Stopper, G: Gate>
     // Status 2 comes exactly if the words ask for nothing.
     ensures words { (result.status ≡ 2) ↔ AskNothing (map string_bytes words.now) }
 
-    // If the file was read, its bytes decide whether they are refused: for `run`, `rank` and `unrank` status 3 comes exactly
-    // if they write no problem, and for `resume` status 8 exactly if they are the text of no state.
+    // If the file was read, its bytes decide whether they are refused: for `run`, `trees`, `rank` and `unrank` status 3
+    // comes exactly if they write no problem, and for `resume` status 8 exactly if they are the text of no state.
     ensures accepted { Accepts (run_of (map string_bytes words.now)
         (files_change F.content F.faults F.last_fault files.old files.new)
         (sink_change O.written O.is_flushed O.faults out.old out.new)
@@ -126,9 +127,9 @@ pub fn locus<R: Threads + Sync, F: Files, O: Sink, E: Sink, S: Stopper, G: Gate>
         (sink_change E.written E.is_flushed E.faults err.old err.new)
         (stopper_change S.stops S.last_stop stopper.old stopper.new) result.shares) result.status }
 
-    // At status 0 and 1, but for `make`, `rank` and `unrank`, what is printed is the residues that the sum began with plus
-    // those of all numbers from its first on, and the only fractions that agree with them. If it began anew or with true
-    // residues, they are Kontsevich's.
+    // At status 0 and 1, but for `make`, `trees`, `rank` and `unrank`, what is printed is the residues that the sum began with
+    // plus those of all numbers from its first on, and the only fractions that agree with them. If it began anew or with
+    // true residues, they are Kontsevich's.
     ensures residues { PrintsItsSums (run_of (map string_bytes words.now)
         (files_change F.content F.faults F.last_fault files.old files.new)
         (sink_change O.written O.is_flushed O.faults out.old out.new)
@@ -158,7 +159,7 @@ pub fn locus<R: Threads + Sync, F: Files, O: Sink, E: Sink, S: Stopper, G: Gate>
         (sink_change E.written E.is_flushed E.faults err.old err.new)
         (stopper_change S.stops S.last_stop stopper.old stopper.new) result.shares) result.status }
 
-    // Each worker has a share, and the shares add up to the blocks of the rounds whose outcome was printed.
+    // Each worker has a share, and the shares add up to the blocks of the rounds whose outcome was printed, or of the list.
     ensures claims { ClaimsBlocks (run_of (map string_bytes words.now)
         (files_change F.content F.faults F.last_fault files.old files.new)
         (sink_change O.written O.is_flushed O.faults out.old out.new)
@@ -179,8 +180,10 @@ pub fn locus<R: Threads + Sync, F: Files, O: Sink, E: Sink, S: Stopper, G: Gate>
         (sink_change E.written E.is_flushed E.faults err.old err.new)
         (stopper_change S.stops S.last_stop stopper.old stopper.new) result.shares) result.status }
 
-    // At status 0 `rank` prints the number of the decorated tree of the problem that has the text, and `unrank` the text of
-    // the tree of the number.
+    // At status 0 `rank` prints the number of the decorated tree of the problem that has the text, `unrank` the text of the
+    // tree of the number, and `trees` the number, the text and the residues of the contribution of each tree of the range, the
+    // same for every number of workers. If no residue is missing, they add up to those of the partial sums, and for all trees
+    // to those of Kontsevich's sums.
     ensures numbers { PrintsNumbers (run_of (map string_bytes words.now)
         (files_change F.content F.faults F.last_fault files.old files.new)
         (sink_change O.written O.is_flushed O.faults out.old out.new)
@@ -188,8 +191,9 @@ pub fn locus<R: Threads + Sync, F: Files, O: Sink, E: Sink, S: Stopper, G: Gate>
         (stopper_change S.stops S.last_stop stopper.old stopper.new) result.shares) result.status }
 
     // If the file was read and writes a problem: `rank` has status 11 exactly if the text is that of no decorated tree of the
-    // problem, and `unrank` has status 10 exactly if the number is not below the number of them. Otherwise they have status
-    // 0, but for a fault of the output and want of memory.
+    // problem, `unrank` has status 10 exactly if the number is not below the number of them, and `trees` has status 10 exactly
+    // if LO >= HI, or HI is above the number of them, or HI - LO above 4,096. Otherwise they have status 0, but for a fault of
+    // the output and want of memory.
     ensures choice { DecidesNumbers (run_of (map string_bytes words.now)
         (files_change F.content F.faults F.last_fault files.old files.new)
         (sink_change O.written O.is_flushed O.faults out.old out.new)

@@ -9,6 +9,7 @@ ghost use Rattle.report.specs.Statuses.{code_of};
 ghost use Rattle.locus_core.specs.Outside.{Unchanged, files_change, stopper_change, HasFaultAt};
 ghost use Rattle.locus_core.specs.Steps.{IsWork, Loads, as_refusal};
 
+use crate::listing::list;
 use crate::numbers::{rank, unrank};
 use crate::sums::{go_on, soak};
 use checkpoint::{CheckpointError, fresh};
@@ -50,7 +51,8 @@ pub(crate) enum Refusal {
     Checkpoint(CheckpointError),
     /// The text is that of no decorated tree of the problem.
     Tree(TreeTextError),
-    /// The number is not below the number of the decorated trees of the problem, which is this.
+    /// The numbers are not those of decorated trees of the problem, of which there are so many; or those of a list are none,
+    /// or too many.
     Range(u64),
     /// The system gave no memory.
     NoMemory,
@@ -92,6 +94,12 @@ pub(crate) fn work<R: Threads + Sync, F: Files, S: Stopper, G: Gate>(
             stopper,
             gate,
         )),
+        Command::Trees {
+            file,
+            low,
+            high,
+            workers,
+        } => list(rt, alloc, files, file, low, high, workers as u32, gate),
         Command::Rank { file, text } => rank(alloc, files, file, text),
         Command::Unrank { file, number } => unrank(alloc, files, file, number),
         _ => unreachable!(),

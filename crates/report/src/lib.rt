@@ -9,6 +9,7 @@ mod text;
 
 pub use report::{Report, done, no_inverse};
 pub use status::Status;
+pub use text::{append_integral_line, append_labelled_line};
 
 #[cfg(test)]
 mod tests;

@@ -13,12 +13,11 @@ use recover_fraction::Fraction;
 use residue::{Modulus, NoMemory};
 
 /// Appends a word, a space and a number on a line of their own.
+///
+/// # Errors
+/// `NoMemory` if there is no memory for the text, which may then hold a part of the line.
 #[tactic(auto, using(std::proofs::Common::append_assoc))]
-pub(crate) fn append_labelled_line(
-    text: &mut Vec<u8>,
-    word: &str,
-    number: u64,
-) -> Result<(), NoMemory>
+pub fn append_labelled_line(text: &mut Vec<u8>, word: &str, number: u64) -> Result<(), NoMemory>
     ensures { OnOk result (text.new.items ≡ text.old.items ++ labelled_line word.now number) }
 {
     text.extend_from_slice(word.as_bytes())?;
@@ -69,7 +68,14 @@ fn append_integral(
 }
 
 /// Appends the line that names an integral, if there are two or more.
-fn append_integral_line(text: &mut Vec<u8>, count: usize, integral: usize) -> Result<(), NoMemory>
+///
+/// # Errors
+/// `NoMemory` if there is no memory for the text, which may then hold a part of the line.
+pub fn append_integral_line(
+    text: &mut Vec<u8>,
+    count: usize,
+    integral: usize,
+) -> Result<(), NoMemory>
     ensures { OnOk result (text.new.items ≡ text.old.items ++ integral_line count integral) }
 {
     if count > 1 {

@@ -17,12 +17,13 @@ fn message(alloc: Global, commands: Commands, line: &str) -> Result<String, Allo
 fn the_program_alone_shows_its_use(rt: HostRuntime) -> Result<(), Fail> {
     let wanted = concat!(
         "error: 'locus' requires a subcommand but one was not provided\n",
-        "  [subcommands: run, resume, make, soak, rank, unrank]\n\n",
+        "  [subcommands: run, resume, make, soak, trees, rank, unrank]\n\n",
         "Usage: locus COMMAND ..\n\n",
         "  run FILE [--workers N] [--budget N] [--stop-file NAME]     sum a problem and print its residues and fractions\n",
         "  resume FILE [--workers N] [--budget N] [--stop-file NAME]  go on with a sum that was paused\n",
         "  make N                                                     print the generated problem of a number\n",
         "  soak N [--workers N]                                       sum the generated problem of a number\n",
+        "  trees FILE LO HI [--workers N]                             print the trees of a range with their residues\n",
         "  rank FILE TEXT                                             print the number of a tree\n",
         "  unrank FILE K                                              print the tree of a number\n",
     );

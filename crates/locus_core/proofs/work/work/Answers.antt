@@ -19,6 +19,12 @@ returns-in-Soak g c =
     subst (λ command. IsWork (request_of command) files stopper c.or_refusal-in-Soak.result) (sym c.in-Soak.is)
     (soak_works files stopper c.in-Soak.number c.in-Soak.workers c.soak.result c.or_refusal-in-Soak.result c.or_refusal-in-Soak.ensures refl c.soak.ensures.done c.soak.ensures.no_memory)
 
+pub returns-in-Trees : goal.returns-in-Trees
+returns-in-Trees g c =
+    let files = files_change g.F.Files.content g.F.Files.faults g.F.Files.last_fault c.args.files.now c.list.new.files in
+    let stopper = stopper_change g.S.Stopper.stops g.S.Stopper.last_stop c.args.stopper.now c.args.stopper.now in
+    subst (λ command. IsWork (request_of command) files stopper c.list.result) (sym c.in-Trees.is) (c.list.ensures stopper refl)
+
 pub returns-in-Rank : goal.returns-in-Rank
 returns-in-Rank g c =
     let files = files_change g.F.Files.content g.F.Files.faults g.F.Files.last_fault c.args.files.now c.rank.new.files in

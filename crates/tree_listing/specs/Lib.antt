@@ -1,0 +1,4 @@
+pub mod Residues
+pub mod Values
+pub mod Texts
+pub mod Ranges
