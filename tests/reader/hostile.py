@@ -116,24 +116,36 @@ def of_words(chance):
     count = chance.choice((0, 1, 2, 3, 3, 4, 5))
     words = [chance.choice(WORDS) for _ in range(count)]
     if words and chance.random() < 0.8:
-        words[0] = chance.choice((b"run", b"resume", b"make", b"soak", b"rank", b"unrank"))
+        words[0] = chance.choice((b"run", b"resume", b"make", b"soak", b"trees", b"rank", b"unrank"))
         words[1:1] = [chance.choice((b"text", b"no-such-file", b"0", b"+2", b"4294967295"))] * chance.choice((0, 1, 1))
     is_long = words[:1] == [b"soak"] and any(word.lstrip(b"+0")[-1:] in b"13579" for word in words[1:] if word)
     return Call([b"soak", b"--workers"] if is_long else words, models_text(chance, 0))
 
 
 def of_trees(chance):
-    """A call of `rank` or of `unrank`."""
+    """A call of `trees`, of `rank` or of `unrank`."""
     text = models_text(chance, 0) if chance.random() < 0.9 else hostile_text(chance)
     try:
         problem = problems.read(text)
     except problems.Refused:
         return Call([b"unrank", b"text", b"0"], text)
     count = problem.count()
+    if chance.random() < 0.3:
+        return of_range(chance, count, text)
     if chance.random() < 0.4:
         number = chance.choice((0, count - 1, count, count + 1, MOST_TREES, chance.randrange(count)))
         return Call([b"unrank", b"text", b"%d" % min(number, MOST_TREES)], text)
     return Call([b"rank", b"text", hostile_tree(chance, problem)], text)
+
+
+def of_range(chance, count, text):
+    """A call of `trees` over a short range, or over one that is refused."""
+    low = chance.choice((0, max(count - 8, 0), count - 1, count, chance.randrange(count)))
+    high = chance.choice((low, low + 1, min(low + 8, count), count + 1, low + 4097, MOST_TREES))
+    if low < high <= count and high - low > 64:
+        high = low + 8
+    workers = chance.choice(([], [], [b"--workers", b"3"], [b"--workers=64"]))
+    return Call([b"trees", b"text", b"%d" % low, b"%d" % min(high, MOST_TREES), *workers], text)
 
 
 def hostile_tree(chance, problem):

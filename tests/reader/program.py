@@ -22,10 +22,13 @@ OPTIONS = {
     "resume": (b"--workers", b"--budget", b"--stop-file"),
     "make": (),
     "soak": (b"--workers",),
+    "trees": (b"--workers",),
     "rank": (),
     "unrank": (),
 }
-TWO_WORDS = ("rank", "unrank")
+# How many positional arguments a command has, if not one.
+WORDS = {"trees": 3, "rank": 2, "unrank": 2}
+MOST_LISTED = 4096
 LIMITS = {b"--workers": (1, 64), b"--budget": (1, MOST_TREES), "number": (0, 2**32 - 1), "tree": (0, MOST_TREES)}
 
 # Stands for a text of which docs/FORMATS.md says no more than that it is there.
@@ -47,7 +50,7 @@ class Request:
 
     command: str
     plain: bytes
-    second: bytes | None
+    more: list
     options: dict
 
     def number(self, name, otherwise):
@@ -101,16 +104,17 @@ def asked(words):
         raise NotTaken
     command = words[0].decode()
     plain, options = split_words(words[1:], OPTIONS[command])
-    if len(plain) != (2 if command in TWO_WORDS else 1):
+    if len(plain) != WORDS.get(command, 1):
         raise NotTaken
     for name, value in options.items():
         if name in LIMITS:
             check_number(value, *LIMITS[name])
     if command in ("make", "soak"):
         check_number(plain[0], *LIMITS["number"])
-    if command == "unrank":
-        check_number(plain[1], *LIMITS["tree"])
-    return Request(command, plain[0], plain[1] if command in TWO_WORDS else None, options)
+    if command in ("trees", "unrank"):
+        for word in plain[1:]:
+            check_number(word, *LIMITS["tree"])
+    return Request(command, plain[0], plain[1:], options)
 
 
 def split_words(words, known):
@@ -152,9 +156,11 @@ def of_file(request, folder):
     except checkpoint.Refused as refusal:
         return Ending(8, err=f"checkpoint refused {refusal.told}\n".encode())
     if request.command == "rank":
-        return ranked(state.problem, request.second)
+        return ranked(state.problem, *request.more)
     if request.command == "unrank":
-        return unranked(state.problem, int(request.second))
+        return unranked(state.problem, *map(int, request.more))
+    if request.command == "trees":
+        return listed(state.problem, *map(int, request.more))
     return summed(state, request.number(b"--budget", MOST_TREES), b"")
 
 
@@ -174,6 +180,23 @@ def unranked(problem, number):
         return Ending(10, err=b"range refused %d\n" % problem.count())
     tree = trees.tree_of(number, problem.rank, problem.degree, problem.marks)
     return Ending(0, out=tree.text().encode() + b"\n")
+
+
+def listed(problem, low, high):
+    """How `trees` ends."""
+    if low >= high or high > problem.count() or high - low > MOST_LISTED:
+        return Ending(10, err=b"range refused %d\n" % problem.count())
+    moduli = [sums.SumModulo(problem, modulus) for modulus in problem.moduli]
+    lines = []
+    for number in range(low, high):
+        tree = trees.tree_of(number, problem.rank, problem.degree, problem.marks)
+        lines += [f"tree {number}", tree.text()]
+        for integral, terms in enumerate(problem.integrals):
+            lines += [f"integral {integral}"] * (len(problem.integrals) > 1)
+            for modulo in moduli:
+                residue = modulo.contribution(terms, tree)
+                lines.append(f"residue {modulo.modulus} {'none' if residue is None else residue}")
+    return Ending(0, out="".join(line + "\n" for line in lines).encode())
 
 
 def summed(state, budget, head):
